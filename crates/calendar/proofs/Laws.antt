@@ -1,0 +1,161 @@
+-- The laws of months and years in the paper's words, over any constants that meet the list, for every year.
+use Prim.Native.Nat.{ℕ, zero, suc, _+_, _*_, _-_, _/_, _%_, _≤_, _<_}
+use mathlib.Core.Path.{_≡_, refl, subst₂, ap}
+use mathlib.Core.Logic.{_⊎_, inl, inr, ⊎-elim}
+use native.Mathlib.Omega.{arith}
+use Rattle.calendar.specs.declared.data.Constants.{Constants}
+use Rattle.calendar.specs.One.{One}
+use Rattle.calendar.specs.Month.{monthHead, InMonth, monthLength, Holds, HoldsSome, Lacks, numberOf, Bears, Marked}
+use Rattle.calendar.specs.Year.{Span, monthCount, yearHead, nextHead, yearLength, lengthsFrom, InYear, DayOfYear, MonthNamed}
+use Rattle.calendar.specs.Consistent.{Consistent}
+use Rattle.calendar.specs.Calendar.{Calendar}
+use Rattle.calendar.specs.ClosedForms.{monthOfQi, qiOfMonth, monthOfDay, firstMonth, yearOfMonth, monthNumber, leapMark}
+use Rattle.calendar.proofs.Rising.{by-order}
+use Rattle.calendar.proofs.Months.{head-monotone, month-from, month-before, month-unique, qi-of-held, count-least, count-most, within-of-qi, in-its-year, year-unique, month-again, twelve-hold, thirteen-one-lacks}
+use Rattle.calendar.proofs.Reckoned.{reckoned}
+use Rattle.calendar.proofs.Spans.{span, span-first, span-next, in-year, within}
+use Rattle.calendar.proofs.Numbers.{month-of-held, holds-of-month, held-of-holds, holds-of-held, number-unique, bears-its-number, mark-unique, marked}
+
+module _ (c : Constants) (ok : Consistent c) where
+  abbrev K : Calendar
+  K = reckoned c ok
+
+  -- A month has 29 or 30 days.
+  pub month-days : (k : ℕ) → (monthLength c k ≡ 29) ⊎ (monthLength c k ≡ 30)
+  month-days k =
+      by-order (monthLength c k) 30
+      (λ l. inl (omega (arith, K .month-least k)))
+      (λ l. inr (omega (arith, K .month-most k)))
+
+  -- A year has twelve or thirteen months.
+  pub year-months : {n : ℕ} (y : Span c n) → (monthCount y ≡ 12) ⊎ (monthCount y ≡ 13)
+  year-months {n} y =
+      let a = span-first c ok y in
+      let b = span-next c ok y in
+      by-order (monthCount y) 13 (λ l. inl (omega (arith, count-least K n))) (λ l. inr (omega (arith, count-most K n)))
+
+  -- Of twelve months it has 354 or 355 days, of thirteen 383 or 384.
+  pub days-of-twelve : {n : ℕ} (y : Span c n) → monthCount y ≡ 12 → (yearLength y ≡ 354) ⊎ (yearLength y ≡ 355)
+  days-of-twelve {n} y e =
+      let f : y .first + 12 ≡ y .next = omega arith in
+      let h = ap (monthHead c) f in
+      by-order (yearLength y) 355
+      (λ l. inl (omega (arith, K .twelve-least (y .first))))
+      (λ l. inr (omega (arith, K .twelve-most (y .first))))
+
+  pub days-of-thirteen : {n : ℕ} (y : Span c n) → monthCount y ≡ 13 → (yearLength y ≡ 383) ⊎ (yearLength y ≡ 384)
+  days-of-thirteen {n} y e =
+      let f : y .first + 13 ≡ y .next = omega arith in
+      let h = ap (monthHead c) f in
+      by-order (yearLength y) 384
+      (λ l. inl (omega (arith, K .thirteen-least (y .first))))
+      (λ l. inr (omega (arith, K .thirteen-most (y .first))))
+
+  -- The lengths of a year's months add up to the distance between its head and the next year's head.
+  lengths-telescope : (count k : ℕ) → monthHead c k + lengthsFrom c k count ≡ monthHead c (k + count)
+  unfolding lengthsFrom
+  lengths-telescope zero k = let e : k ≡ k + 0 = omega arith in omega (arith, ap (monthHead c) e)
+  lengths-telescope (suc count) k =
+      let e : k + 1 + count ≡ k + suc count = omega arith in
+      omega (arith, ap (monthHead c) e, lengths-telescope count (k + 1), K .month-least k)
+
+  pub lengths-add-up : {n : ℕ} (y : Span c n) → lengthsFrom c (y .first) (monthCount y) ≡ yearLength y
+  lengths-add-up {n} y =
+      let a = span-first c ok y in
+      let b = span-next c ok y in
+      let e : y .first + monthCount y ≡ y .next = omega (arith, count-least K n) in
+      omega (arith, ap (monthHead c) e, lengths-telescope (monthCount y) (y .first))
+
+  -- Each month is in exactly one year.
+  pub month-in-one-year : (k : ℕ) → One (λ n. InYear c n k)
+  month-in-one-year k =
+      record {
+        it = yearOfMonth c k;
+        has = in-year c ok (yearOfMonth c k) k (in-its-year K k);
+        only = λ n i. year-unique K n k (within c ok n k i);
+      }
+
+  -- The months of a year tile its days: each day of the year is in exactly one of them,
+  pub months-cover : (n d : ℕ) → DayOfYear c n d → One (λ k. InYear c n k × InMonth c k d)
+  months-cover n d y =
+      record {
+        it = monthOfDay c d;
+        has = (record { span = y .span; from = month-from K (y .span .first) d (y .from); before = month-before K (y .span .next) d (y .before) }, (K .day-from d, K .day-before d));
+        only = λ k p. month-unique K k d (p .1 .0) (p .1 .1);
+      }
+
+  -- and each day of theirs is a day of the year.
+  pub months-stay-within : (n k d : ℕ) → InYear c n k → InMonth c k d → DayOfYear c n d
+  months-stay-within n k d i p =
+      let a : yearHead (i .span) ≤ monthHead c k = head-monotone K (i .from) in
+      let b : monthHead c (k + 1) ≤ nextHead (i .span) = head-monotone K (omega (arith, i .before)) in
+      record { span = i .span; from = omega arith; before = omega arith }
+
+  -- Each day is in exactly one year.
+  pub day-in-one-year : (d : ℕ) → One (λ n. DayOfYear c n d)
+  unfolding months-cover
+  day-in-one-year d =
+      let year = month-in-one-year (monthOfDay c d) in
+      record {
+        it = year .it;
+        has = months-stay-within (year .it) (monthOfDay c d) d (year .has) (K .day-from d, K .day-before d);
+        only = λ n y. year .only n (months-cover n d y .has .0);
+      }
+
+  -- Of twelve months none lacks a middle qi,
+  pub twelve-none-lacks : {n : ℕ} (y : Span c n) → monthCount y ≡ 12 → (k : ℕ) → InYear c n k → HoldsSome c k
+  twelve-none-lacks {n} y e k i =
+      let a = span-first c ok y in
+      let b = span-next c ok y in
+      holds-of-held c ok k (twelve-hold K n (omega arith) k (within c ok n k i))
+
+  -- and of thirteen exactly one does.
+  pub thirteen-one-leap : {n : ℕ} (y : Span c n) → monthCount y ≡ 13 → One (λ k. InYear c n k × Lacks c k)
+  thirteen-one-leap {n} y e =
+      let a = span-first c ok y in
+      let b = span-next c ok y in
+      let one = thirteen-one-lacks K n (omega arith) in
+      record {
+        it = one .it;
+        has = (in-year c ok n (one .it) (one .has .0), λ h. one .has .1 (held-of-holds c ok (one .it) h));
+        only = λ k p. one .only k (within c ok n k (p .0), λ h. p .1 (holds-of-held c ok k h));
+      }
+
+  -- No month holds two middle qi.
+  pub holds-one : (k n j m i : ℕ) → j < 12 → i < 12 → Holds c k n j → Holds c k m i → (n ≡ m) × (j ≡ i)
+  holds-one k n j m i a b p q =
+      let x = qi-of-held K (12 * n + j) k (month-of-held c ok k n j p) in
+      let y = qi-of-held K (12 * m + i) k (month-of-held c ok k m i q) in
+      omega arith
+
+  -- Each month of a year has its number and its leap mark,
+  pub named : (n k : ℕ) → InYear c n k → MonthNamed c n (monthNumber c k) (leapMark c k) k
+  named n k i = record { in-year = i; bears = bears-its-number c ok k; marked = marked c ok k }
+
+  -- which determine it within its year;
+  pub named-unique : (n number mark k l : ℕ) → MonthNamed c n number mark k → MonthNamed c n number mark l → k ≡ l
+  named-unique n number mark k l p q =
+      let a = number-unique c ok (p .bears) in
+      let b = number-unique c ok (q .bears) in
+      let e : qiOfMonth c k % 12 ≡ qiOfMonth c l % 12 = omega arith in
+      omega (
+        arith,
+        mark-unique c ok (p .marked),
+        mark-unique c ok (q .marked),
+        month-again K n k (within c ok n k (p .in-year)),
+        month-again K n l (within c ok n l (q .in-year)),
+        ap (λ j. monthOfQi c (12 * n + j)) e,
+      )
+
+  -- and numbers 1 to 12 without the mark are all there.
+  pub numbers-all-there : (n number : ℕ) → 1 ≤ number → number ≤ 12 → One (λ k. MonthNamed c n number 0 k)
+  numbers-all-there n number a b =
+      let j = (number + 1) % 12 in
+      let k = monthOfQi c (12 * n + j) in
+      let e : 12 * n + j ≡ qiOfMonth c k = qi-of-held K (12 * n + j) k refl in
+      let numbered : monthNumber c k ≡ number = omega arith in
+      let unmarked : leapMark c k ≡ 0 = omega (arith, ap (monthOfQi c) e) in
+      let it : MonthNamed c n number 0 k =
+      subst₂ (λ x y. MonthNamed c n x y k) numbered unmarked (named n k (in-year c ok n k (within-of-qi K n j (omega arith))))
+      in
+      record { it = k; has = it; only = λ l q. named-unique n number 0 l k q it }

@@ -1,0 +1,21 @@
+-- The laws of the reckoning, each proved once. `Laws` is the summary.
+-- Whole division: scalings, and how they are inverted.
+pub mod Division
+-- Functions that rise at each step.
+pub mod Rising
+-- What holds in every calendar.
+pub mod Months
+-- Constants that meet the list make a calendar.
+pub mod Reckoned
+-- The worded rules and the closed forms: the months of a year.
+pub mod Spans
+-- The worded rules and the closed forms: middle qi, numbers and leap marks.
+pub mod Numbers
+-- The laws of months and years, in the paper's words.
+pub mod Laws
+-- Equal steps of a year, and moments told as days, parts and small units.
+pub mod Steps
+-- The names of days.
+pub mod Names
+-- The list, checked for each system.
+pub mod EachSystem

@@ -1,0 +1,47 @@
+-- Equal steps of a year, and moments told as days, parts and small units.
+use Prim.Native.Nat.{ℕ, _+_, _*_, _/_, _%_, _≤_, _<_}
+use mathlib.Core.Path.{_≡_, refl, ap}
+use native.Mathlib.Nat.{div-add-mod', mod-lt}
+use native.Mathlib.Omega.{arith}
+use Rattle.calendar.specs.declared.data.Constants.{Constants}
+use Rattle.calendar.specs.Systems.{guantian}
+use Rattle.calendar.specs.Qi.{solstice, step, moment, qi, dayOf, partsOf, unitsOf}
+use Rattle.calendar.specs.Consistent.{Consistent}
+
+-- s steps make a year: s divides its small units.
+module _ (c : Constants) (s : ℕ) (closes : s * step c s ≡ c .year * c .units) where
+  -- no step loses anything: s times moment i is s n + i years
+  pub exact : (n i : ℕ) → s * moment c s n i ≡ (s * n + i) * (c .year * c .units)
+  exact n i = spread (step c s) closes
+    where
+      spread : (t : ℕ) → s * t ≡ c .year * c .units → s * (n * c .year * c .units + i * t) ≡ (s * n + i) * (c .year * c .units)
+      spread t e = omega (arith, ap (λ x. i * x) e)
+
+  -- s steps after a solstice it is the next solstice, to the last small unit
+  pub steps-close : (n : ℕ) → moment c s n s ≡ solstice c (n + 1) * c .units
+  steps-close n = omega (arith, closes)
+
+-- Qi 24 of a year is qi 0 of the next.
+pub qi-closes : (c : Constants) → Consistent c → (n : ℕ) → qi c n 24 ≡ qi c (n + 1) 0
+qi-closes c ok n = omega (arith, steps-close c 24 (ok .steps-close) n)
+
+-- A moment is what it is told as.
+pub record Told (c : Constants) (u : ℕ) : Type 0 where
+  pub whole : u ≡ (dayOf c u * c .day + partsOf c u) * c .units + unitsOf c u
+  pub parts-below : partsOf c u < c .day
+  pub units-below : unitsOf c u < c .units
+
+pub told : (c : Constants) → Consistent c → (u : ℕ) → Told c u
+told c ok u =
+    record {
+      whole = omega (arith, div-add-mod' u (c .units), ap (λ x. x * c .units) (div-add-mod' (u / c .units) (c .day)));
+      parts-below = mod-lt (u / c .units) (ok .day-some);
+      units-below = mod-lt u (ok .units-some);
+    }
+
+-- The corrected step of 002: 15 days, 2,628 parts and 12 small units; its double step agrees.
+pub guantian-step : step guantian 24 ≡ (15 * 12_030 + 2628) * 36 + 12
+guantian-step = refl
+
+pub guantian-double-step : 2 * step guantian 24 ≡ (30 * 12_030 + 5256) * 36 + 24
+guantian-double-step = refl

@@ -1,0 +1,37 @@
+-- The functions by which the code reckons, beside `monthHead`. Middle qi are counted on from the epoch: g is 12 n + j for middle qi j
+-- of year n, so that nothing needs a case for the turn of the year. All divisions are whole.
+use Prim.Native.Nat.{ℕ, _+_, _*_, _-_, _/_, _%_}
+use Rattle.calendar.specs.declared.data.Constants.{Constants}
+use Rattle.calendar.specs.Month.{monthHead, numberOf}
+
+-- The month that has day d: the last whose head is at or before d. k M / D ≤ d just when k M ≤ (d + 1) D - 1.
+abbrev pub monthOfDay : Constants → ℕ → ℕ
+monthOfDay c d = ((d + 1) * c .day - 1) / c .month
+
+-- The month that holds middle qi g, which falls g Y / 12 parts from the epoch.
+abbrev pub monthOfQi : Constants → ℕ → ℕ
+monthOfQi c g = g * c .year / (12 * c .month)
+
+-- The last middle qi before the end of month k: g Y / 12 < (k + 1) M just when g Y ≤ (k + 1) 12 M - 1.
+abbrev pub qiOfMonth : Constants → ℕ → ℕ
+qiOfMonth c k = ((k + 1) * (12 * c .month) - 1) / c .year
+
+-- The month that year n begins with: it holds the solstice, the year's first middle qi.
+abbrev pub firstMonth : Constants → ℕ → ℕ
+firstMonth c n = monthOfQi c (12 * n)
+
+-- The first day of year n.
+abbrev pub headOfYear : Constants → ℕ → ℕ
+headOfYear c n = monthHead c (firstMonth c n)
+
+-- The year that month k is in.
+abbrev pub yearOfMonth : Constants → ℕ → ℕ
+yearOfMonth c k = qiOfMonth c k / 12
+
+-- The number of month k: that of its middle qi, or, where it holds none, of the last before it.
+abbrev pub monthNumber : Constants → ℕ → ℕ
+monthNumber c k = numberOf (qiOfMonth c k % 12)
+
+-- The leap mark of month k: how far it lies behind the month that holds that middle qi, 0 or 1.
+abbrev pub leapMark : Constants → ℕ → ℕ
+leapMark c k = k - monthOfQi c (qiOfMonth c k)

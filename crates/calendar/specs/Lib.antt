@@ -1,0 +1,19 @@
+-- The reckoning of paper 01, in the order of the paper; each file can be checked against it by reading.
+-- The constants of both systems, years elapsed, register days.
+pub mod Systems
+-- The sixty-day name of a day.
+pub mod Name
+-- The solstice, equal steps of a year, and the 24 qi.
+pub mod Qi
+-- Mean new moons, the days of a month, the middle qi that it holds, its number and its leap mark.
+pub mod Month
+-- The months and the days of a year, its head and its length; a day's ordinal.
+pub mod Year
+-- Exactly one number with a property, as the laws say it.
+pub mod One
+-- What the laws ask of a system's constants.
+pub mod Consistent
+-- What the laws need of a calendar, and nothing else.
+pub mod Calendar
+-- The functions by which the code reckons, with no search.
+pub mod ClosedForms

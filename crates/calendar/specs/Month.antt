@@ -1,0 +1,58 @@
+-- Months: their days, the middle qi that they hold, their numbers and leap marks. Month k begins with mean new moon k.
+use Prim.Native.Nat.{ℕ, _+_, _*_, _-_, _/_, _%_, _≤_, _<_}
+use mathlib.Core.Path.{_≡_}
+use mathlib.Core.Logic.{_⊎_}
+use Rattle.calendar.specs.declared.data.Constants.{Constants}
+use Rattle.calendar.specs.Qi.{qi}
+
+-- Reckoning, mean new moon: k times M parts from the epoch.
+abbrev pub newMoon : Constants → ℕ → ℕ
+newMoon c k = k * c .month
+
+-- A month's head is its first day: the new moon's count day.
+abbrev pub monthHead : Constants → ℕ → ℕ
+monthHead c k = newMoon c k / c .day
+
+-- Month k holds the days from its new moon's day up to the day before the next one's.
+abbrev pub InMonth : Constants → ℕ → ℕ → Type 0
+InMonth c k d = (monthHead c k ≤ d) × (d < monthHead c (k + 1))
+
+-- How many days it has.
+abbrev pub monthLength : Constants → ℕ → ℕ
+monthLength c k = monthHead c (k + 1) - monthHead c k
+
+-- The day of a month by its place in it, from 1.
+abbrev pub dayOfMonth : Constants → ℕ → ℕ → ℕ
+dayOfMonth c k place = monthHead c k + place - 1
+
+-- Even qi are middle qi: middle qi j of year n, j from 0 to 11, is its qi 2 j.
+abbrev pub middleQi : Constants → ℕ → ℕ → ℕ
+middleQi c n j = qi c n (2 * j)
+
+-- Month k holds middle qi j of year n: the qi's moment is at or after its own new moon and before the next.
+abbrev pub Holds : Constants → ℕ → ℕ → ℕ → Type 0
+Holds c k n j = (newMoon c k * c .units ≤ middleQi c n j) × (middleQi c n j < newMoon c (k + 1) * c .units)
+
+-- Month k holds a middle qi, of whichever year.
+pub record HoldsSome (c : Constants) (k : ℕ) : Type 0 where
+  pub year : ℕ
+  pub index : ℕ
+  pub is-middle : index < 12
+  pub holds : Holds c k year index
+
+-- Month k lacks a middle qi: it holds none of any year. Such a month is leap.
+abbrev pub Lacks : Constants → ℕ → Type 0
+Lacks c k = HoldsSome c k → ⊥
+
+-- A month that holds middle qi 2j has number 11, 12, 1, 2 .. 10, in the order of j = 0 to 11.
+abbrev pub numberOf : ℕ → ℕ
+numberOf j = (j + 10) % 12 + 1
+
+-- The number that month k bears: that of the middle qi it holds; if leap, that of the month before it.
+pub data Bears (c : Constants) : ℕ → ℕ → Type 0 where
+  ordinary : {k m : ℕ} → (h : HoldsSome c k) → m ≡ numberOf (h .index) → Bears c k m
+  leap : {k l m : ℕ} → l ≡ k + 1 → Lacks c l → Bears c k m → Bears c l m
+
+-- The leap mark of month k: 1 if it lacks a middle qi, 0 if it holds one.
+abbrev pub Marked : Constants → ℕ → ℕ → Type 0
+Marked c k mark = ((mark ≡ 0) × HoldsSome c k) ⊎ ((mark ≡ 1) × Lacks c k)

@@ -1,0 +1,46 @@
+-- The two systems: paper 01, "Constants".
+use Prim.Native.Nat.{ℕ, _+_, _-_}
+use mathlib.Core.Bool.{cond}
+use lib.Dec.{eqb}
+use Rattle.calendar.specs.declared.data.Constants.{Constants}
+
+-- System 1, Guantian.
+abbrev pub guantian : Constants
+guantian =
+    record {
+      day = 12_030;
+      year = 4_393_880;
+      month = 355_253;
+      units = 36;
+      elapsed = 5_944_808;
+      common = 1092;
+      name = 0;
+      anchor = 2_169_182_929;
+    }
+
+-- System 2, Jiyuan.
+abbrev pub jiyuan : Constants
+jiyuan =
+    record {
+      day = 7290;
+      year = 2_662_626;
+      month = 215_278;
+      units = 4;
+      elapsed = 28_613_460;
+      common = 1100;
+      name = 15;
+      anchor = 10_448_760_934;
+    }
+
+-- The constants of a system by its number; whoever asks has refused any number but 1 and 2.
+abbrev pub constantsOf : ℕ → Constants
+constantsOf system = cond (eqb system 1) guantian jiyuan
+
+-- Row "years elapsed": N at common year A. It rises by one a year; the printed "two" of 002 is corrected.
+-- The sum stands before the difference, so that it is right for every A from 1.
+abbrev pub yearsElapsed : Constants → ℕ → ℕ
+yearsElapsed c a = c .elapsed + a - c .common
+
+-- Row "register day": a count day less the register's own anchor.
+abbrev pub registerDay : Constants → ℕ → ℕ
+registerDay c d = d - c .anchor

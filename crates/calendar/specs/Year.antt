@@ -1,0 +1,59 @@
+-- Years: their months and their days. A year is told by n, the years elapsed since the epoch.
+use Prim.Native.Nat.{ℕ, zero, suc, _+_, _-_, _≤_, _<_}
+use mathlib.Core.Path.{_≡_}
+use Rattle.calendar.specs.declared.data.Constants.{Constants}
+use Rattle.calendar.specs.Qi.{solstice}
+use Rattle.calendar.specs.Month.{newMoon, monthHead, monthLength, Bears, Marked}
+
+-- Year n begins with month k: its new moon is the last at or before the solstice.
+abbrev pub Begins : Constants → ℕ → ℕ → Type 0
+Begins c n k = (newMoon c k ≤ solstice c n) × ((j : ℕ) → newMoon c j ≤ solstice c n → j ≤ k)
+
+-- What bounds year n: the month that it begins with, and the month so found for the year after.
+pub record Span (c : Constants) (n : ℕ) : Type 0 where
+  pub first : ℕ
+  pub next : ℕ
+  pub begins : Begins c n first
+  pub ends : Begins c (n + 1) next
+
+-- How many months a year has.
+abbrev pub monthCount : {c : Constants} {n : ℕ} → Span c n → ℕ
+monthCount y = y .next - y .first
+
+-- A year's head is that of its first month; it ends before the next year's head.
+abbrev pub yearHead : {c : Constants} {n : ℕ} → Span c n → ℕ
+yearHead {c} y = monthHead c (y .first)
+
+abbrev pub nextHead : {c : Constants} {n : ℕ} → Span c n → ℕ
+nextHead {c} y = monthHead c (y .next)
+
+-- How many days a year has.
+abbrev pub yearLength : {c : Constants} {n : ℕ} → Span c n → ℕ
+yearLength y = nextHead y - yearHead y
+
+-- The lengths of `count` months from month k on, added up.
+unfoldable pub lengthsFrom : Constants → ℕ → ℕ → ℕ
+lengthsFrom c k zero = 0
+lengthsFrom c k (suc count) = monthLength c k + lengthsFrom c (k + 1) count
+
+-- Month k is one of year n.
+pub record InYear (c : Constants) (n k : ℕ) : Type 0 where
+  pub span : Span c n
+  pub from : span .first ≤ k
+  pub before : k < span .next
+
+-- Count day d is one of year n: from its head up to the day before the next year's head.
+pub record DayOfYear (c : Constants) (n d : ℕ) : Type 0 where
+  pub span : Span c n
+  pub from : yearHead span ≤ d
+  pub before : d < nextHead span
+
+-- The day of a year by its ordinal, from 1.
+abbrev pub dayOfOrdinal : {c : Constants} {n : ℕ} → Span c n → ℕ → ℕ
+dayOfOrdinal y ordinal = yearHead y + ordinal - 1
+
+-- The month of year n with a number and a leap mark: the leap one where the mark is 1, the other where it is 0.
+pub record MonthNamed (c : Constants) (n number mark k : ℕ) : Type 0 where
+  pub in-year : InYear c n k
+  pub bears : Bears c k number
+  pub marked : Marked c k mark

@@ -1,0 +1,27 @@
+// A register day: the Julian Day Number of a civil day counted from midnight. The customer's own term.
+pub struct RegisterDay(pub u32);
+
+// A sixty-day name, from 0 (jiazi) to 59 (guihai).
+pub struct DayName(pub u8);
+
+// The place of a day in its year, from 1.
+pub struct Ordinal(pub u16);
+
+// What differs between two systems. Paper 01, "Constants", a field a row.
+pub struct Constants {
+    // Parts in a day, D.
+    pub day: u64,
+    // Parts in a year, Y.
+    pub year: u64,
+    // Parts in a mean month, M.
+    pub month: u64,
+    // Small units in a part.
+    pub units: u64,
+    // Years elapsed, N, at the common year `common`.
+    pub elapsed: u64,
+    pub common: u64,
+    // The sixty-day name of count day 0.
+    pub name: u64,
+    // A count day less its register day.
+    pub anchor: u64,
+}

@@ -1,0 +1,41 @@
+// The constants of the two systems.
+ghost use mathlib.Core.Path.{_≡_};
+ghost use Rattle.calendar.specs.Systems.{guantian, jiyuan, constantsOf};
+use crate::data::Constants;
+
+pub fn guantian() -> Constants
+    ensures { λ r. ⌜ r ≡ guantian ⌝ }
+{
+    Constants {
+        day: 12_030,
+        year: 4_393_880,
+        month: 355_253,
+        units: 36,
+        elapsed: 5_944_808,
+        common: 1092,
+        name: 0,
+        anchor: 2_169_182_929,
+    }
+}
+
+pub fn jiyuan() -> Constants
+    ensures { λ r. ⌜ r ≡ jiyuan ⌝ }
+{
+    Constants {
+        day: 7290,
+        year: 2_662_626,
+        month: 215_278,
+        units: 4,
+        elapsed: 28_613_460,
+        common: 1100,
+        name: 15,
+        anchor: 10_448_760_934,
+    }
+}
+
+// By a system's number: 1 is Guantian, any other Jiyuan. Who asks has refused all but 1 and 2.
+pub fn constants_of(system: u32) -> Constants
+    ensures { λ r. ⌜ r ≡ constantsOf system ⌝ }
+{
+    if system == 1 { guantian() } else { jiyuan() }
+}

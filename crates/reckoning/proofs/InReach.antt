@@ -1,0 +1,61 @@
+-- What the laws say of a year within the register.
+use Prim.Native.Nat.{ℕ, _+_, _*_, _-_, _^_, _≤_, _<_}
+use mathlib.Core.Path.{_≡_, ap}
+use mathlib.Core.Logic.{⊎-elim}
+use native.Mathlib.Omega.{arith}
+use Rattle.calendar.specs.declared.data.Constants.{Constants}
+use Rattle.calendar.specs.Systems.{registerDay}
+use Rattle.calendar.specs.Month.{monthHead}
+use Rattle.calendar.specs.ClosedForms.{firstMonth, headOfYear}
+use Rattle.calendar.specs.Consistent.{Consistent}
+use Rattle.calendar.specs.Calendar.{Calendar}
+use Rattle.calendar.proofs.Reckoned.{reckoned}
+use Rattle.calendar.proofs.Months.{count-least, count-most, head-monotone}
+use Rattle.calendar.proofs.Spans.{span}
+use Rattle.calendar.proofs.Laws.{year-months, days-of-twelve, days-of-thirteen}
+use Rattle.reckoning.specs.Room.{Registered, Reach, Listed}
+
+module _ (c : Constants) (n : ℕ) (r : Reach c n) where
+  abbrev ok : Consistent c
+  ok = r .room .consistent
+
+  abbrev K : Calendar
+  K = reckoned c ok
+
+  pub first-small : firstMonth c n < 2 ^ 31
+  first-small = omega (arith, count-least K n, r .months)
+
+  -- its months can be listed
+  pub listed : Listed c (firstMonth c n) (firstMonth c (n + 1) - firstMonth c n)
+  listed =
+      let least = count-least K n in
+      let most = count-most K n in
+      record {
+        room = r .room;
+        first-small = first-small;
+        count-most = omega arith;
+        head = λ i h. r .head (firstMonth c n + i) (omega arith) (omega arith);
+      }
+
+  pub first-head : Registered c (headOfYear c n)
+  first-head = r .head (firstMonth c n) (omega arith) (omega (arith, count-least K n))
+
+  pub next-head : Registered c (headOfYear c (n + 1))
+  next-head = r .head (firstMonth c (n + 1)) (omega (arith, count-least K n)) (omega arith)
+
+  length-most : headOfYear c (n + 1) ≤ headOfYear c n + 384
+  length-most =
+      let y = span c ok n in
+      ⊎-elim
+      (λ twelve. ⊎-elim (λ e. omega arith) (λ e. omega arith) (days-of-twelve c ok y twelve))
+      (λ thirteen. ⊎-elim (λ e. omega arith) (λ e. omega arith) (days-of-thirteen c ok y thirteen))
+      (year-months c ok y)
+
+  -- its heads rise in the register too, by 384 at most
+  pub register-rises : registerDay c (headOfYear c n) ≤ registerDay c (headOfYear c (n + 1))
+  register-rises =
+      let l : headOfYear c n ≤ headOfYear c (n + 1) = head-monotone K (omega (arith, count-least K n)) in
+      omega arith
+
+  pub register-length-most : registerDay c (headOfYear c (n + 1)) - registerDay c (headOfYear c n) ≤ 384
+  register-length-most = omega (arith, length-most, first-head, next-head)

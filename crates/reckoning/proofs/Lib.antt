@@ -1,0 +1,11 @@
+-- Proofs that serve several functions, and theorems on what the requests answer.
+-- Refusals: which rule applies, and what an accepted request has.
+pub mod Refusals
+-- Years in scope keep the bounds.
+pub mod Scope
+-- How an answer follows from what was asked.
+pub mod Answers
+-- What the laws say of a year within the register.
+pub mod InReach
+-- Filling a list, and reading it.
+pub mod Fill

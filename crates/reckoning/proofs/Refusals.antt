@@ -1,0 +1,48 @@
+-- Refusals: which rule applies, and what an accepted request has.
+use Prim.Native.Nat.{ℕ, _≤_, _<_}
+use mathlib.Core.Path.{_≡_, refl, ap, _∙_}
+use mathlib.Core.Bool.{Bool, true, false, true≢false, cond, _||_}
+use lib.Dec.{ltb}
+use native.Mathlib.Omega.{arith}
+use borrow.Author.Tests.{ltb-false}
+use Rattle.reckoning.specs.Refusal.{outside, yearRefusal, qiRefusal}
+
+-- Where no rule gave a number, the first did not apply, nor did any other.
+pub passed : (number : ℕ) (b : Bool) (rest : ℕ) → 0 < number → cond b number rest ≡ 0 → (b ≡ false) × (rest ≡ 0)
+passed number true rest some e = absurd (omega arith)
+passed number false rest some e = (refl, e)
+
+-- A number that is in its range.
+pub record Inside (least most x : ℕ) : Type 0 where
+  pub at-least : least ≤ x
+  pub at-most : x ≤ most
+
+pub inside-of : (least most x : ℕ) → outside least most x ≡ false → Inside least most x
+inside-of least most x e = both (ltb x least) (ltb most x) refl refl e
+  where
+    both : (a b : Bool) → ltb x least ≡ a → ltb most x ≡ b → a || b ≡ false → Inside least most x
+    both true b p q r = absurd (true≢false r)
+    both false true p q r = absurd (true≢false r)
+    both false false p q r = record { at-least = ltb-false x least p; at-most = ltb-false most x q }
+
+-- What an accepted request has: a system 1 or 2, and a year 1 to 3000.
+pub record InScope (system year : ℕ) : Type 0 where
+  pub system-inside : Inside 1 2 system
+  pub year-inside : Inside 1 3000 year
+
+pub accepted : (system year : ℕ) → yearRefusal system year ≡ 0 → InScope system year
+unfolding yearRefusal
+accepted system year e =
+    let four = passed 4 (outside 1 2 system) (cond (outside 1 3000 year) 5 0) (omega arith) e in
+    let five = passed 5 (outside 1 3000 year) 0 (omega arith) (four .1) in
+    record { system-inside = inside-of 1 2 system (four .0); year-inside = inside-of 1 3000 year (five .0) }
+
+pub accepted-qi : (system year i : ℕ) → qiRefusal system year i ≡ 0 → InScope system year × (i ≤ 23)
+unfolding qiRefusal
+accepted-qi system year i e =
+    let four = passed 4 (outside 1 2 system) (cond (outside 1 3000 year) 5 (cond (ltb 23 i) 9 0)) (omega arith) e in
+    let five = passed 5 (outside 1 3000 year) (cond (ltb 23 i) 9 0) (omega arith) (four .1) in
+    let nine = passed 9 (ltb 23 i) 0 (omega arith) (five .1) in (
+      record { system-inside = inside-of 1 2 system (four .0); year-inside = inside-of 1 3000 year (five .0) },
+      ltb-false 23 i (nine .0),
+    )

@@ -1,0 +1,19 @@
+use mathlib.Core.Path.{subst, sym, ap, _∙_}
+use Rattle.calendar.specs.Systems.{yearsElapsed}
+use Rattle.reckoning.specs.Room.{Room}
+use Rattle.reckoning.proofs.Scope.{room}
+use borrow.Author.Needs.{needs}
+use Rattle.reckoning.proofs.asked.ask.Statement.{statement}
+use Rattle.reckoning.proofs.asked.ask.Tie as tie
+
+constants-of-requires : tie.Need-constants-of-requires
+constants-of-requires c κs = search needs
+
+years-elapsed-requires : tie.Need-years-elapsed-requires
+years-elapsed-requires c κs = subst Room (sym (c .constants-of .ensures)) (room (c .before .args .system))
+
+returns : tie.Need-returns
+returns c = let n = c .years-elapsed .ensures ∙ ap (λ x. yearsElapsed x (c .before .before .args .year)) (c .before .constants-of .ensures) in λ j. record { refusal = c .before .before .args .refusal; c = c .before .constants-of .ensures j; n = n j }
+
+pub ask-spec : {M : Type 1} → statement M
+ask-spec = tie.close (tie.spec constants-of-requires years-elapsed-requires returns)

@@ -1,0 +1,21 @@
+use mathlib.Core.Path.{subst, sym, ap, _∙_}
+use native.Mathlib.Omega.{arith}
+use Rattle.calendar.specs.Systems.{registerDay}
+use Rattle.calendar.specs.Month.{monthHead}
+use Rattle.reckoning.specs.Room.{Registered}
+use Rattle.reckoning.specs.Requests.{asRegisterDay}
+use borrow.Author.Needs.{needs}
+use Rattle.reckoning.proofs.closed_forms.year_head.Statement.{statement}
+use Rattle.reckoning.proofs.closed_forms.year_head.Tie as tie
+
+first-month-requires : tie.Need-first-month-requires
+first-month-requires c κs = search needs
+
+register-head-requires : tie.Need-register-head-requires
+register-head-requires c κs = (c .before .pre .0, omega arith, subst (λ k. Registered (c .before .args .c) (monthHead (c .before .args .c) k)) (sym (c .first-month .ensures)) (c .before .pre .3))
+
+returns : tie.Need-returns
+returns c = c .register-head .ensures ∙ ap (λ k. asRegisterDay (registerDay (c .before .before .args .c) (monthHead (c .before .before .args .c) k))) (c .before .first-month .ensures)
+
+pub year-head-spec : {M : Type 1} → statement M
+year-head-spec = tie.close (tie.spec first-month-requires register-head-requires returns)

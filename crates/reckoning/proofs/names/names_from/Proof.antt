@@ -1,0 +1,57 @@
+use Prim.Native.Nat.{_-_, _≤_}
+use mathlib.Core.Path.{_≡_, refl, ap, _∙_}
+use native.Mathlib.Omega.{arith}
+use Rattle.reckoning.specs.Requests.{nameAt, noNames}
+use Rattle.reckoning.specs.Filled.{filled}
+use Rattle.reckoning.proofs.Fill.{filled-none, filled-more}
+use Rattle.reckoning.proofs.names.names_from.Statement.{statement}
+use Rattle.reckoning.proofs.names.names_from.Tie as tie
+
+abbrev Inv-loop : tie.InvT-loop
+Inv-loop head length names₀ i₀ names i = (i ≤ length) × (names ≡ filled (nameAt head) noNames i)
+
+abbrev μ-loop : tie.MeasureT-loop
+μ-loop head length names₀ i₀ names i = length - i
+
+loop-holds : tie.Need-loop-holds Inv-loop μ-loop
+loop-holds c = (omega arith, filled-none _ _)
+
+add-names : tie.Need-add-names Inv-loop μ-loop
+add-names c = omega arith
+
+add-names-2 : tie.Need-add-names-2 Inv-loop μ-loop
+add-names-2 c = omega arith
+
+cast-names : tie.Need-cast-names Inv-loop μ-loop
+cast-names c = omega arith
+
+array-write-names : tie.Need-array-write-names Inv-loop μ-loop
+array-write-names c = omega arith
+
+add-i : tie.Need-add-i Inv-loop μ-loop
+add-i c = omega arith
+
+loop-less : tie.Need-loop-less Inv-loop μ-loop
+loop-less c = omega arith
+
+loop-again : tie.Need-loop-again Inv-loop μ-loop
+loop-again c = (omega arith, filled-more _ _ _ _ _ (c .before .loop .inv .1) refl)
+
+returns : tie.Need-returns Inv-loop μ-loop
+returns c = let e : c .before .loop .i ≡ c .before .before .args .length = omega arith in c .before .loop .inv .1 ∙ ap (filled _ noNames) e
+
+pub names-from-spec : {M : Type 1} → statement M
+names-from-spec =
+    tie.close
+    (tie.spec
+    Inv-loop
+    μ-loop
+    loop-holds
+    add-names
+    add-names-2
+    cast-names
+    array-write-names
+    add-i
+    loop-less
+    loop-again
+    returns)

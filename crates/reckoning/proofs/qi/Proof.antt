@@ -1,0 +1,24 @@
+use mathlib.Core.Path.{sym, ap, _∙_}
+use Rattle.reckoning.specs.Requests.{qiIn, noQi, qiOf}
+use Rattle.reckoning.proofs.Refusals.{accepted-qi}
+use Rattle.reckoning.proofs.Answers.{refused, answered, within-reach}
+use borrow.Author.Needs.{needs}
+use Rattle.reckoning.proofs.qi.Statement.{statement}
+use Rattle.reckoning.proofs.qi.Tie as tie
+
+of-qi-requires : tie.Need-of-qi-requires
+of-qi-requires c κs = search needs
+
+returns : tie.Need-returns
+unfolding qiOf
+returns c = refused (λ k n. qiIn k n (c .before .before .before .args .i)) noQi _ _ (c .before .before .of-qi .ensures) (c .if1 .taken)
+
+qi-requires : tie.Need-qi-requires
+qi-requires c κs = let in-scope = accepted-qi _ _ _ (sym (ap (λ a. a .refusal) (c .before .before .of-qi .ensures)) ∙ c .if1 .left) in (within-reach _ _ _ _ (c .before .before .of-qi .ensures) (in-scope .0), in-scope .1)
+
+returns-2 : tie.Need-returns-2
+unfolding qiOf
+returns-2 c = c .qi .ensures ∙ answered (λ k n. qiIn k n (c .before .before .before .before .args .i)) noQi _ _ (c .before .before .before .of-qi .ensures) (c .before .if1 .left)
+
+pub qi-spec : {M : Type 1} → statement M
+qi-spec = tie.close (tie.spec of-qi-requires returns qi-requires returns-2)

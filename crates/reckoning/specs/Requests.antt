@@ -1,0 +1,99 @@
+-- What each request answers, for every input: paper 01, "Reckoning" and "Numbered refusals".
+use Prim.Native.Nat.{ℕ, _+_, _-_}
+use mathlib.Core.List.{List}
+use lib.ListN.{replicate}
+use Rattle.calendar.specs.declared.data.Constants.{Constants}
+use Rattle.calendar.specs.declared.data.RegisterDay.{RegisterDay}
+use Rattle.calendar.specs.Systems.{registerDay}
+use Rattle.calendar.specs.Name.{nameOf}
+use Rattle.calendar.specs.Qi.{solsticeDay, solsticeRemainder, qi, dayOf, partsOf, unitsOf}
+use Rattle.calendar.specs.Month.{monthHead}
+use Rattle.calendar.specs.ClosedForms.{firstMonth, headOfYear, monthNumber, leapMark}
+use Rattle.reckoning.specs.declared.data.Solstice.{Solstice}
+use Rattle.reckoning.specs.declared.data.Qi.{Qi}
+use Rattle.reckoning.specs.declared.data.Year.{Year}
+use Rattle.reckoning.specs.declared.data.Sheet.{Sheet}
+use Rattle.reckoning.specs.Refusal.{yearRefusal, qiRefusal}
+use Rattle.reckoning.specs.Asked.{askedOf, answerTo}
+use Rattle.reckoning.specs.Filled.{filled}
+
+abbrev pub asRegisterDay : ℕ → RegisterDay
+asRegisterDay r = record { 0 = r }
+
+-- The solstice of year n. Refused: zeros.
+abbrev pub solsticeIn : Constants → ℕ → Solstice
+solsticeIn c n =
+    record { refusal = 0; day = asRegisterDay (registerDay c (solsticeDay c n)); remainder = solsticeRemainder c n }
+
+abbrev pub noSolstice : ℕ → Solstice
+noSolstice refusal = record { refusal = refusal; day = asRegisterDay 0; remainder = 0 }
+
+unfoldable pub solsticeOf : ℕ → ℕ → Solstice
+solsticeOf system year = answerTo (askedOf (yearRefusal system year) system year) solsticeIn noSolstice
+
+-- Qi i of year n, its moment told as register day, parts and small units. Refused: zeros.
+abbrev pub qiIn : Constants → ℕ → ℕ → Qi
+qiIn c n i =
+    let u = qi c n i in
+    record { refusal = 0; day = asRegisterDay (registerDay c (dayOf c u)); parts = partsOf c u; units = unitsOf c u }
+
+abbrev pub noQi : ℕ → Qi
+noQi refusal = record { refusal = refusal; day = asRegisterDay 0; parts = 0; units = 0 }
+
+unfoldable pub qiOf : ℕ → ℕ → ℕ → Qi
+qiOf system year i = answerTo (askedOf (qiRefusal system year i) system year) (λ c n. qiIn c n i) noQi
+
+-- The months of year n in order: their heads with the next year's head after them, their numbers and leap marks; 0 in
+-- unused places. Refused: count, heads, numbers and marks all 0.
+abbrev pub noHeads : List RegisterDay
+noHeads = replicate 14 (asRegisterDay 0)
+
+abbrev pub noMarks : List ℕ
+noMarks = replicate 14 0
+
+abbrev pub headAt : Constants → ℕ → ℕ → RegisterDay
+headAt c first i = asRegisterDay (registerDay c (monthHead c (first + i)))
+
+abbrev pub numberAt : Constants → ℕ → ℕ → ℕ
+numberAt c first i = monthNumber c (first + i)
+
+abbrev pub leapAt : Constants → ℕ → ℕ → ℕ
+leapAt c first i = leapMark c (first + i)
+
+unfoldable pub monthsFrom : Constants → ℕ → ℕ → Year
+monthsFrom c first count =
+    record {
+      refusal = 0;
+      count = count;
+      heads = filled (headAt c first) noHeads (count + 1);
+      numbers = filled (numberAt c first) noMarks count;
+      leaps = filled (leapAt c first) noMarks count;
+    }
+
+abbrev pub yearIn : Constants → ℕ → Year
+yearIn c n = monthsFrom c (firstMonth c n) (firstMonth c (n + 1) - firstMonth c n)
+
+abbrev pub noYear : ℕ → Year
+noYear refusal = record { refusal = refusal; count = 0; heads = noHeads; numbers = noMarks; leaps = noMarks }
+
+unfoldable pub yearOf : ℕ → ℕ → Year
+yearOf system year = answerTo (askedOf (yearRefusal system year) system year) yearIn noYear
+
+-- The names of the days of year n, one to a day, and 255 past its end. Refused: 384 times 255.
+abbrev pub noNames : List ℕ
+noNames = replicate 384 255
+
+abbrev pub nameAt : ℕ → ℕ → ℕ
+nameAt head i = nameOf (head + i)
+
+unfoldable pub sheetIn : Constants → ℕ → Sheet
+sheetIn c n =
+    let head = registerDay c (headOfYear c n) in
+    let next = registerDay c (headOfYear c (n + 1)) in
+    record { refusal = 0; names = filled (nameAt head) noNames (next - head) }
+
+abbrev pub noSheet : ℕ → Sheet
+noSheet refusal = record { refusal = refusal; names = noNames }
+
+unfoldable pub sheetOf : ℕ → ℕ → Sheet
+sheetOf system year = answerTo (askedOf (yearRefusal system year) system year) sheetIn noSheet

@@ -1,0 +1,46 @@
+-- Bounds under which the code's numbers fit: kept by every year in scope (see `reach`).
+use Prim.Native.Nat.{ℕ, _+_, _*_, _^_, _≤_, _<_}
+use Rattle.calendar.specs.declared.data.Constants.{Constants}
+use Rattle.calendar.specs.Qi.{solstice, solsticeDay, qi, dayOf}
+use Rattle.calendar.specs.Month.{monthHead}
+use Rattle.calendar.specs.Consistent.{Consistent}
+use Rattle.calendar.specs.ClosedForms.{firstMonth}
+
+-- Products of the constants with counts of months, days, years and middle qi.
+pub record Room (c : Constants) : Type 0 where
+  pub consistent : Consistent c
+  pub month-some : 0 < c .month
+  pub year-some : 0 < c .year
+  pub day-small : c .day < 2 ^ 32
+  pub units-small : c .units < 2 ^ 32
+  pub days : 2 ^ 36 * c .day < 2 ^ 63
+  pub months : 2 ^ 32 * c .month < 2 ^ 63
+  pub twelve-months : 2 ^ 32 * (12 * c .month) < 2 ^ 63
+  pub years : 2 ^ 32 * c .year < 2 ^ 63
+  pub year-units : c .year * c .units < 2 ^ 62
+  pub elapsed-small : c .elapsed < 2 ^ 31
+  pub common-small : c .common ≤ c .elapsed
+  pub anchor-small : c .anchor < 2 ^ 35
+
+-- Count day d has a register day of 32 bits.
+pub record Registered (c : Constants) (d : ℕ) : Type 0 where
+  pub from : c .anchor ≤ d
+  pub before : d < c .anchor + 2 ^ 32
+
+-- Year n lies within the register.
+pub record Reach (c : Constants) (n : ℕ) : Type 0 where
+  pub room : Room c
+  pub elapsed : n + 1 < 2 ^ 28
+  pub months : firstMonth c (n + 1) < 2 ^ 31
+  pub solstice-small : solstice c n < 2 ^ 62
+  pub qi-small : (i : ℕ) → i ≤ 23 → qi c n i < 2 ^ 62
+  pub solstice-day : Registered c (solsticeDay c n)
+  pub qi-day : (i : ℕ) → i ≤ 23 → Registered c (dayOf c (qi c n i))
+  pub head : (k : ℕ) → firstMonth c n ≤ k → k ≤ firstMonth c (n + 1) → Registered c (monthHead c k)
+
+-- `count` months from month `first` on, and the head after them, lie within the register.
+pub record Listed (c : Constants) (first count : ℕ) : Type 0 where
+  pub room : Room c
+  pub first-small : first < 2 ^ 31
+  pub count-most : count ≤ 13
+  pub head : (i : ℕ) → i ≤ count → Registered c (monthHead c (first + i))

@@ -1,0 +1,39 @@
+// What a request by system and year stands on.
+ghost use mathlib.Core.Path.{_≡_};
+ghost use Rattle.reckoning.specs.Asked.{askedOf};
+ghost use Rattle.reckoning.specs.Refusal.{yearRefusal, qiRefusal};
+use crate::closed_forms::years_elapsed;
+use crate::refusal;
+use calendar::data::Constants;
+use calendar::systems::constants_of;
+
+// Its refusal number, the system's constants and the years elapsed.
+pub(crate) struct Asked {
+    pub refusal: u8,
+    pub c: Constants,
+    pub n: u64,
+}
+
+fn ask(refusal: u8, system: u32, year: u32) -> Asked
+    ensures { λ r. ⌜ r ≡ askedOf refusal system year ⌝ }
+{
+    let c = constants_of(system);
+    let n = years_elapsed(c, year);
+    Asked {
+        refusal: refusal,
+        c: c,
+        n: n,
+    }
+}
+
+pub(crate) fn of_year(system: u32, year: u32) -> Asked
+    ensures { λ r. ⌜ r ≡ askedOf (yearRefusal system year) system year ⌝ }
+{
+    ask(refusal::of_year(system, year), system, year)
+}
+
+pub(crate) fn of_qi(system: u32, year: u32, i: u32) -> Asked
+    ensures { λ r. ⌜ r ≡ askedOf (qiRefusal system year i) system year ⌝ }
+{
+    ask(refusal::of_qi(system, year, i), system, year)
+}

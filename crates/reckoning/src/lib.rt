@@ -1,0 +1,90 @@
+// The requests by system and year: solstice, qi, months and day sheet; and the name of a day.
+//
+// System, year and qi number come as 32 bits, so that no number is cut before it can be refused. A refused request
+// gives a blank answer that carries the refusal number.
+ghost use mathlib.Core.Path.{_≡_};
+ghost use Rattle.calendar.specs.Name.{nameOf};
+ghost use Rattle.reckoning.specs.Requests.{solsticeOf, qiOf, yearOf, sheetOf};
+use calendar::data::DayName;
+use calendar::data::RegisterDay;
+use data::Qi;
+use data::Sheet;
+use data::Solstice;
+use data::Year;
+
+mod asked;
+mod closed_forms;
+pub mod data;
+mod months;
+mod names;
+mod refusal;
+mod solar;
+
+// The winter solstice of a year.
+pub fn solstice(system: u32, year: u32) -> Solstice
+    ensures { λ r. ⌜ r ≡ solsticeOf system year ⌝ }
+{
+    let asked = asked::of_year(system, year);
+    if asked.refusal != 0 {
+        return Solstice {
+            refusal: asked.refusal,
+            day: RegisterDay(0),
+            remainder: 0,
+        };
+    }
+    solar::solstice(asked.c, asked.n)
+}
+
+// Qi i of a year, i from 0 (the winter solstice) to 23.
+pub fn qi(system: u32, year: u32, i: u32) -> Qi
+    ensures { λ r. ⌜ r ≡ qiOf system year i ⌝ }
+{
+    let asked = asked::of_qi(system, year, i);
+    if asked.refusal != 0 {
+        return Qi {
+            refusal: asked.refusal,
+            day: RegisterDay(0),
+            parts: 0,
+            units: 0,
+        };
+    }
+    solar::qi(asked.c, asked.n, i as u64)
+}
+
+// The months of a year.
+pub fn year(system: u32, year: u32) -> Year
+    ensures { λ r. ⌜ r ≡ yearOf system year ⌝ }
+{
+    let asked = asked::of_year(system, year);
+    if asked.refusal != 0 {
+        return Year {
+            refusal: asked.refusal,
+            count: 0,
+            heads: [RegisterDay(0); 14],
+            numbers: [0u8; 14],
+            leaps: [0u8; 14],
+        };
+    }
+    months::of_year(asked.c, asked.n)
+}
+
+// The day sheet of a year.
+pub fn sheet(system: u32, year: u32) -> Sheet
+    ensures { λ r. ⌜ r ≡ sheetOf system year ⌝ }
+{
+    let asked = asked::of_year(system, year);
+    if asked.refusal != 0 {
+        return Sheet {
+            refusal: asked.refusal,
+            names: [255u8; 384],
+        };
+    }
+    names::of_year(asked.c, asked.n)
+}
+
+// The sixty-day name of a register day.
+pub fn day_name(day: RegisterDay) -> DayName
+    ensures { λ r. ⌜ r ≡ record { 0 = nameOf (day .0) } ⌝ }
+{
+    DayName(((day.0 as u64 + 49) % 60) as u8)
+}

@@ -1,0 +1,37 @@
+// The names of one year's days.
+ghost use mathlib.Core.Path.{_≡_};
+ghost use Prim.Native.Nat.{_≤_};
+ghost use Rattle.reckoning.specs.Requests.{sheetIn, nameAt, noNames};
+ghost use Rattle.reckoning.specs.Filled.{filled};
+ghost use Rattle.reckoning.specs.Room.{Reach};
+use crate::closed_forms::year_head;
+use crate::data::Sheet;
+use calendar::data::Constants;
+
+// The names of `length` days from register day `head` on, and 255 after them.
+fn names_from(head: u32, length: usize) -> [u8; 384]
+    requires { ⌜ length ≤ 384 ⌝ }
+    ensures { λ r. ⌜ r ≡ filled (nameAt head) noNames length ⌝ }
+{
+    let mut names = [255u8; 384];
+    let mut i = 0;
+    while i < length {
+        names[i] = ((head as u64 + i as u64 + 49) % 60) as u8;
+        i += 1;
+    }
+    names
+}
+
+// The day sheet of year n.
+pub(crate) fn of_year(c: Constants, n: u64) -> Sheet
+    requires { ⌜ Reach c n ⌝ }
+    ensures { λ r. ⌜ r ≡ sheetIn c n ⌝ }
+{
+    let head = year_head(c, n);
+    let next = year_head(c, n + 1);
+    let names = names_from(head.0, (next.0 - head.0) as usize);
+    Sheet {
+        refusal: 0,
+        names: names,
+    }
+}

@@ -1,0 +1,36 @@
+// Numbered refusals of the requests by system and year: each function gives the first that applies, or 0.
+ghost use mathlib.Core.Path.{_≡_};
+ghost use Rattle.reckoning.specs.Refusal.{outside, yearRefusal, qiRefusal};
+
+fn outside(least: u32, most: u32, x: u32) -> bool
+    ensures { λ r. ⌜ r ≡ outside least most x ⌝ }
+{
+    x < least || most < x
+}
+
+pub(crate) fn of_year(system: u32, year: u32) -> u8
+    ensures { λ r. ⌜ r ≡ yearRefusal system year ⌝ }
+{
+    if outside(1, 2, system) {
+        return 4;
+    }
+    if outside(1, 3000, year) {
+        return 5;
+    }
+    0
+}
+
+pub(crate) fn of_qi(system: u32, year: u32, i: u32) -> u8
+    ensures { λ r. ⌜ r ≡ qiRefusal system year i ⌝ }
+{
+    if outside(1, 2, system) {
+        return 4;
+    }
+    if outside(1, 3000, year) {
+        return 5;
+    }
+    if 23 < i {
+        return 9;
+    }
+    0
+}
