@@ -6,7 +6,7 @@ use Rattle.calendar.specs.declared.data.Constants.{Constants}
 use Rattle.reckoning.specs.declared.asked.Asked.{Asked}
 use Rattle.reckoning.specs.Asked.{askedOf, answerTo}
 use Rattle.reckoning.specs.Room.{Reach}
-use Rattle.reckoning.proofs.Refusals.{InScope}
+use Rattle.reckoning.specs.Scope.{InScope}
 use Rattle.reckoning.proofs.Scope.{reach}
 
 module _ {A : Type 0} (answer : Constants → ℕ → A) (blank : ℕ → A) where

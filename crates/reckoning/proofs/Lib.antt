@@ -7,5 +7,11 @@ pub mod Scope
 pub mod Answers
 -- What the laws say of a year within the register.
 pub mod InReach
+-- The value that `year` returns holds the months of the reckoning.
+pub mod MonthsHeld
 -- Filling a list, and reading it.
 pub mod Fill
+-- The other answers hold what the reckoning says.
+pub mod AnswersHeld
+-- The proved examples of paper 01.
+pub mod Examples

@@ -1,21 +1,17 @@
 -- Refusals: which rule applies, and what an accepted request has.
 use Prim.Native.Nat.{ℕ, _≤_, _<_}
-use mathlib.Core.Path.{_≡_, refl, ap, _∙_}
+use mathlib.Core.Path.{_≡_, refl}
 use mathlib.Core.Bool.{Bool, true, false, true≢false, cond, _||_}
 use lib.Dec.{ltb}
 use native.Mathlib.Omega.{arith}
-use borrow.Author.Tests.{ltb-false}
+use borrow.Author.Tests.{ltb-false, le-ltb}
+use Rattle.reckoning.specs.Scope.{Inside, InScope}
 use Rattle.reckoning.specs.Refusal.{outside, yearRefusal, qiRefusal}
 
 -- Where no rule gave a number, the first did not apply, nor did any other.
 pub passed : (number : ℕ) (b : Bool) (rest : ℕ) → 0 < number → cond b number rest ≡ 0 → (b ≡ false) × (rest ≡ 0)
 passed number true rest some e = absurd (omega arith)
 passed number false rest some e = (refl, e)
-
--- A number that is in its range.
-pub record Inside (least most x : ℕ) : Type 0 where
-  pub at-least : least ≤ x
-  pub at-most : x ≤ most
 
 pub inside-of : (least most x : ℕ) → outside least most x ≡ false → Inside least most x
 inside-of least most x e = both (ltb x least) (ltb most x) refl refl e
@@ -25,17 +21,20 @@ inside-of least most x e = both (ltb x least) (ltb most x) refl refl e
     both false true p q r = absurd (true≢false r)
     both false false p q r = record { at-least = ltb-false x least p; at-most = ltb-false most x q }
 
--- What an accepted request has: a system 1 or 2, and a year 1 to 3000.
-pub record InScope (system year : ℕ) : Type 0 where
-  pub system-inside : Inside 1 2 system
-  pub year-inside : Inside 1 3000 year
+pub inside : (least most x : ℕ) → Inside least most x → outside least most x ≡ false
+inside least most x h = simp (le-ltb x least (h .at-least), le-ltb most x (h .at-most))
 
+-- An accepted request is in scope, and one in scope is accepted.
 pub accepted : (system year : ℕ) → yearRefusal system year ≡ 0 → InScope system year
 unfolding yearRefusal
 accepted system year e =
     let four = passed 4 (outside 1 2 system) (cond (outside 1 3000 year) 5 0) (omega arith) e in
     let five = passed 5 (outside 1 3000 year) 0 (omega arith) (four .1) in
     record { system-inside = inside-of 1 2 system (four .0); year-inside = inside-of 1 3000 year (five .0) }
+
+pub in-scope : (system year : ℕ) → InScope system year → yearRefusal system year ≡ 0
+unfolding yearRefusal
+in-scope system year s = simp (inside 1 2 system (s .system-inside), inside 1 3000 year (s .year-inside))
 
 pub accepted-qi : (system year i : ℕ) → qiRefusal system year i ≡ 0 → InScope system year × (i ≤ 23)
 unfolding qiRefusal
@@ -46,3 +45,8 @@ accepted-qi system year i e =
       record { system-inside = inside-of 1 2 system (four .0); year-inside = inside-of 1 3000 year (five .0) },
       ltb-false 23 i (nine .0),
     )
+
+pub in-scope-qi : (system year i : ℕ) → InScope system year → i ≤ 23 → qiRefusal system year i ≡ 0
+unfolding qiRefusal
+in-scope-qi system year i s h =
+    simp (inside 1 2 system (s .system-inside), inside 1 3000 year (s .year-inside), le-ltb 23 i h)

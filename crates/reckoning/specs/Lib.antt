@@ -1,10 +1,16 @@
 -- What the requests promise, for every input.
+-- The systems and years in scope.
+pub mod Scope
 -- Numbered refusals: the first rule that applies.
 pub mod Refusal
 -- What a request stands on, and how its answer follows.
 pub mod Asked
 -- What each request answers.
 pub mod Requests
+-- What the value of a year's months holds, in the paper's words.
+pub mod YearValue
+-- What the other answers hold.
+pub mod Held
 -- Lists filled from their first place on.
 pub mod Filled
 -- Bounds under which the closed forms stay within 64 bits.

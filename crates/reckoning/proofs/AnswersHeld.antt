@@ -1,0 +1,76 @@
+-- The answers for a solstice, a qi and a day sheet hold what the reckoning says, in each system and year in scope.
+use Prim.Native.Nat.{ℕ, _+_, _*_, _-_, _≤_, _<_}
+use mathlib.Core.Path.{_≡_, refl, subst, sym, ap, _∙_}
+use native.Mathlib.Omega.{arith}
+use lib.ListN.{getD-replicate}
+use Rattle.calendar.specs.declared.data.Constants.{Constants}
+use Rattle.calendar.specs.Systems.{constantsOf, yearsElapsed, registerDay}
+use Rattle.calendar.specs.Name.{nameOf, nameOfCountDay}
+use Rattle.calendar.specs.Qi.{qi, dayOf, partsOf, unitsOf}
+use Rattle.calendar.specs.ClosedForms.{headOfYear}
+use Rattle.calendar.proofs.EachSystem.{consistent}
+use Rattle.calendar.proofs.Spans.{span}
+use Rattle.calendar.proofs.Steps.{told}
+use Rattle.calendar.proofs.Names.{names-agree}
+use Rattle.reckoning.specs.Scope.{InScope}
+use Rattle.reckoning.specs.Refusal.{yearRefusal, qiRefusal}
+use Rattle.reckoning.specs.Asked.{askedOf}
+use Rattle.reckoning.specs.Filled.{filled}
+use Rattle.reckoning.specs.Room.{Reach}
+use Rattle.reckoning.specs.Requests.{solsticeIn, noSolstice, solsticeOf, qiIn, noQi, qiOf, nameAt, noNames, sheetIn, noSheet, sheetOf}
+use Rattle.reckoning.specs.Held.{HoldsSolstice, HoldsQi, HoldsSheet}
+use Rattle.reckoning.proofs.Fill.{filled-below, filled-past, filled-length}
+use Rattle.reckoning.proofs.Refusals.{in-scope, in-scope-qi}
+use Rattle.reckoning.proofs.Scope.{reach}
+use Rattle.reckoning.proofs.Answers.{answered}
+use Rattle.reckoning.proofs.InReach.{first-head, next-head, register-length-most}
+
+module _ (system year : ℕ) (s : InScope system year) where
+  abbrev c : Constants
+  c = constantsOf system
+
+  abbrev n : ℕ
+  n = yearsElapsed c year
+
+  r : Reach c n
+  r = reach system year (s .year-inside)
+
+  pub solstice-holds : HoldsSolstice c n (solsticeOf system year)
+  unfolding solsticeOf
+  solstice-holds =
+      subst (HoldsSolstice c n)
+      (answered solsticeIn noSolstice (askedOf (yearRefusal system year) system year) _ refl (in-scope system year s))
+      (record { accepted = refl; day = omega (arith, r .solstice-day); remainder = refl })
+
+  pub qi-holds : (i : ℕ) → i ≤ 23 → HoldsQi c n i (qiOf system year i)
+  unfolding qiOf
+  qi-holds i h =
+      let t = told c (consistent system) (qi c n i) in
+      let d = r .qi-day i h in
+      let exact : registerDay c (dayOf c (qi c n i)) + c .anchor ≡ dayOf c (qi c n i) = omega (arith, d) in
+      subst (HoldsQi c n i)
+      (answered (λ k m. qiIn k m i) noQi (askedOf (qiRefusal system year i) system year) _ refl (in-scope-qi system year i s h))
+      (record { accepted = refl; moment = ap (λ d. (d * c .day + partsOf c (qi c n i)) * c .units + unitsOf c (qi c n i)) exact ∙ sym (t .whole); parts-below = t .parts-below; units-below = t .units-below })
+
+  pub sheet-holds : HoldsSheet c n (sheetOf system year)
+  unfolding sheetOf sheetIn
+  sheet-holds =
+      let head = registerDay c (headOfYear c n) in
+      let long = registerDay c (headOfYear c (n + 1)) - head in
+      let a = first-head c n r in
+      let b = next-head c n r in
+      let whole : long ≡ headOfYear c (n + 1) - headOfYear c n = omega arith in
+      let most : long ≤ 384 = register-length-most c n r in
+      subst (HoldsSheet c n)
+      (answered sheetIn noSheet (askedOf (yearRefusal system year) system year) _ refl (in-scope system year s))
+      (record
+        { accepted = refl
+        ; span = span c (consistent system) n
+        ; size = filled-length (nameAt head) noNames long
+        ; name = λ i h.
+            let same : head + i ≡ registerDay c (headOfYear c n + i) = omega arith in
+            filled-below (nameAt head) noNames 0 long i (omega arith) most
+            ∙ ap nameOf same
+            ∙ names-agree c (consistent system) (headOfYear c n + i) (omega arith)
+        ; past = λ i h l. filled-past (nameAt head) noNames 0 long i (omega arith) ∙ getD-replicate 384 i 255 0 l
+        })

@@ -1,0 +1,160 @@
+-- The value that `year` returns holds the months of the reckoning; demand 3's part on months, said of that value.
+use Prim.Native.Nat.{ℕ, _+_, _-_, _≤_, _<_}
+use mathlib.Core.Path.{_≡_, refl, subst, sym, ap, _∙_}
+use mathlib.Core.Logic.{_⊎_, inl, inr, ⊎-elim}
+use native.Mathlib.Omega.{arith}
+use lib.ListN.{getD}
+use Rattle.calendar.specs.declared.data.Constants.{Constants}
+use Rattle.calendar.specs.One.{One}
+use Rattle.calendar.specs.Systems.{constantsOf, yearsElapsed, registerDay}
+use Rattle.calendar.specs.Month.{monthHead, InMonth, Lacks, Bears, Marked}
+use Rattle.calendar.specs.Year.{Span, monthCount, InYear, DayOfYear}
+use Rattle.calendar.specs.Consistent.{Consistent}
+use Rattle.calendar.specs.ClosedForms.{firstMonth}
+use Rattle.calendar.proofs.EachSystem.{consistent}
+use Rattle.calendar.proofs.Rising.{by-order}
+use Rattle.calendar.proofs.Reckoned.{reckoned}
+use Rattle.calendar.proofs.Months.{count-least}
+use Rattle.calendar.proofs.Spans.{span, span-first, span-next}
+use Rattle.calendar.proofs.Numbers.{bears-its-number, marked}
+use Rattle.calendar.proofs.Laws.{month-days, year-months, months-cover, twelve-none-lacks, thirteen-one-leap}
+use Rattle.reckoning.specs.declared.data.Year.{Year}
+use Rattle.reckoning.specs.Scope.{InScope}
+use Rattle.reckoning.specs.Asked.{askedOf}
+use Rattle.reckoning.specs.Room.{Reach}
+use Rattle.reckoning.specs.Refusal.{yearRefusal}
+use Rattle.reckoning.specs.Requests.{asRegisterDay, headAt, numberAt, leapAt, noHeads, noMarks, monthsFrom, yearIn, noYear, yearOf}
+use Rattle.reckoning.specs.YearValue.{headIn, numberIn, leapIn, HoldsYear, Tiled}
+use Rattle.reckoning.proofs.Fill.{filled-below, filled-past, replicate-reads}
+use Rattle.reckoning.proofs.Refusals.{in-scope}
+use Rattle.reckoning.proofs.Scope.{reach}
+use Rattle.reckoning.proofs.Answers.{answered}
+use Rattle.reckoning.proofs.InReach.{listed}
+
+-- Year n within the register.
+module _ (c : Constants) (n : ℕ) (r : Reach c n) where
+  head-at : (i : ℕ) → i ≤ firstMonth c (n + 1) - firstMonth c n → headIn (yearIn c n) i + c .anchor ≡ monthHead c (firstMonth c n + i)
+  unfolding monthsFrom
+  head-at i h =
+      let l = listed c n r in
+      let e = filled-below (headAt c (firstMonth c n)) noHeads (asRegisterDay 0) (firstMonth c (n + 1) - firstMonth c n + 1) i (omega arith) (omega (arith, l .count-most)) in
+      omega (arith, ap (λ d. d .0) e, l .head i h)
+
+  pub holds-year : HoldsYear c n (yearIn c n)
+  unfolding monthsFrom
+  holds-year =
+      let ok = r .room .consistent in
+      let f = firstMonth c n in
+      let m = firstMonth c (n + 1) - f in
+      let l = listed c n r in
+      let e : f + m ≡ firstMonth c (n + 1) = omega (arith, count-least (reckoned c ok) n) in
+      record
+        { span = span c ok n
+        ; count = refl
+        ; head = λ i h. head-at i (omega arith)
+        ; next = head-at m (omega arith) ∙ ap (monthHead c) e
+        ; number = λ i h. subst (Bears c (f + i)) (sym (filled-below (numberAt c f) noMarks 0 m i h (omega (arith, l .count-most)))) (bears-its-number c ok (f + i))
+        ; leap = λ i h. subst (Marked c (f + i)) (sym (filled-below (leapAt c f) noMarks 0 m i h (omega (arith, l .count-most)))) (marked c ok (f + i))
+        ; unused-head = λ i h. ap (λ d. d .0) (filled-past (headAt c f) noHeads (asRegisterDay 0) (m + 1) i (omega arith) ∙ replicate-reads (asRegisterDay 0) 14 i)
+        ; unused-number = λ i h. filled-past (numberAt c f) noMarks 0 m i h ∙ replicate-reads 0 14 i
+        ; unused-leap = λ i h. filled-past (leapAt c f) noMarks 0 m i h ∙ replicate-reads 0 14 i
+        }
+
+-- A value that holds the months of a year is tiled by them.
+module _ (c : Constants) (ok : Consistent c) (n : ℕ) (v : Year) (y : HoldsYear c n v) where
+  last : y .span .first + v .count ≡ y .span .next
+  last = omega (arith, y .count, span-first c ok (y .span), span-next c ok (y .span), count-least (reckoned c ok) n)
+
+  head-upto : (i : ℕ) → i ≤ v .count → headIn v i + c .anchor ≡ monthHead c (y .span .first + i)
+  head-upto i h =
+      by-order i (v .count) (y .head i)
+      (λ l.
+        let e : i ≡ v .count = omega arith in
+        subst (λ x. headIn v x + c .anchor ≡ monthHead c (y .span .first + x)) (sym e) (y .next ∙ ap (monthHead c) (sym last)))
+
+  head-after : (i : ℕ) → i < v .count → headIn v (i + 1) + c .anchor ≡ monthHead c (y .span .first + i + 1)
+  head-after i h = let e : y .span .first + (i + 1) ≡ y .span .first + i + 1 = omega arith in head-upto (i + 1) (omega arith) ∙ ap (monthHead c) e
+
+  place-in-year : (i : ℕ) → i < v .count → InYear c n (y .span .first + i)
+  place-in-year i h = record { span = y .span; from = omega arith; before = omega (arith, last) }
+
+  -- Where a month of the year stands in the value.
+  placed : (k : ℕ) → y .span .first ≤ k → k < y .span .next → (k - y .span .first < v .count) × (y .span .first + (k - y .span .first) ≡ k)
+  placed k a b = omega (arith, last)
+
+  day-in : (i r : ℕ) → i < v .count → headIn v i ≤ r → r < headIn v (i + 1) → InMonth c (y .span .first + i) (r + c .anchor)
+  day-in i r h a b = (omega (arith, head-upto i (omega arith)), omega (arith, head-after i h))
+
+  tile : (r : ℕ) → headIn v 0 ≤ r → r < headIn v (v .count) → One (λ i. (i < v .count) × (headIn v i ≤ r) × (r < headIn v (i + 1)))
+  tile r a b =
+      let e : y .span .first + 0 ≡ y .span .first = omega arith in
+      let day : DayOfYear c n (r + c .anchor) =
+        record
+          { span = y .span
+          ; from = omega (arith, head-upto 0 (omega arith), ap (monthHead c) e)
+          ; before = omega (arith, y .next)
+          }
+      in
+      let one = months-cover c ok n (r + c .anchor) day in
+      let in-year = one .has .0 in
+      let at = placed (one .it) (omega (arith, in-year .from, span-first c ok (in-year .span), span-first c ok (y .span))) (omega (arith, in-year .before, span-next c ok (in-year .span), span-next c ok (y .span))) in
+      let i = one .it - y .span .first in
+      record
+        { it = i
+        ; has =
+            ( at .0
+            , omega (arith, one .has .1, head-upto i (omega arith), ap (monthHead c) (at .1))
+            , omega (arith, one .has .1, head-after i (at .0), ap (λ k. monthHead c (k + 1)) (at .1)) )
+        ; only = λ j p. omega (arith, one .only (y .span .first + j) (place-in-year j (p .0), day-in j r (p .0) (p .1) (p .2)))
+        }
+
+  pub tiled : Tiled v
+  tiled =
+      record
+        { months = rw (y .count) (year-months c ok (y .span))
+        ; days = λ i h.
+            ⊎-elim
+            (λ e. inl (omega (arith, head-upto i (omega arith), head-after i h)))
+            (λ e. inr (omega (arith, head-upto i (omega arith), head-after i h)))
+            (month-days c ok (y .span .first + i))
+        ; tile = tile
+        ; twelve = λ e i h.
+            ⊎-elim
+            (λ p. p .0)
+            (λ p. absurd (p .1 (twelve-none-lacks c ok (y .span) (sym (y .count) ∙ e) (y .span .first + i) (place-in-year i (omega arith)))))
+            (y .leap i (omega arith))
+        ; thirteen = λ e.
+            let one = thirteen-one-leap c ok (y .span) (sym (y .count) ∙ e) in
+            let in-year = one .has .0 in
+            let at = placed (one .it) (omega (arith, in-year .from, span-first c ok (in-year .span), span-first c ok (y .span))) (omega (arith, in-year .before, span-next c ok (in-year .span), span-next c ok (y .span))) in
+            let i = one .it - y .span .first in
+            record
+              { it = i
+              ; has =
+                  ( omega (arith, at)
+                  , ⊎-elim
+                    (λ p. absurd (subst (λ k. Lacks c k) (sym (at .1)) (one .has .1) (p .1)))
+                    (λ p. p .0)
+                    (y .leap i (at .0)) )
+              ; only = λ j p.
+                  ⊎-elim
+                  (λ q. omega (arith, p .1, q .0))
+                  (λ q. omega (arith, one .only (y .span .first + j) (place-in-year j (omega (arith, p .0)), q .1)))
+                  (y .leap j (omega (arith, p .0)))
+              }
+        }
+
+-- So in each system and every year in scope.
+module _ (system year : ℕ) (s : InScope system year) where
+  abbrev c : Constants
+  c = constantsOf system
+
+  answer : yearIn c (yearsElapsed c year) ≡ yearOf system year
+  unfolding yearOf
+  answer = answered yearIn noYear (askedOf (yearRefusal system year) system year) _ refl (in-scope system year s)
+
+  pub year-holds : HoldsYear c (yearsElapsed c year) (yearOf system year)
+  year-holds = subst (HoldsYear c (yearsElapsed c year)) answer (holds-year c (yearsElapsed c year) (reach system year (s .year-inside)))
+
+  pub year-tiled : Tiled (yearOf system year)
+  year-tiled = tiled c (consistent system) (yearsElapsed c year) (yearOf system year) year-holds
