@@ -1,10 +1,11 @@
 -- The list, checked for each system by computing.
-use Prim.Native.Nat.{ℕ}
+use Prim.Native.Nat.{ℕ, _+_}
+use mathlib.Core.Path.{_≡_}
 use mathlib.Core.Bool.{Bool, true, false, cond}
 use native.Mathlib.Omega.{arith}
 use lib.Dec.{eqb}
 use Rattle.calendar.specs.declared.data.Constants.{Constants}
-use Rattle.calendar.specs.Systems.{guantian, jiyuan, constantsOf}
+use Rattle.calendar.specs.Systems.{guantian, jiyuan, constantsOf, yearsElapsed}
 use Rattle.calendar.specs.Consistent.{Consistent}
 
 pub guantian-consistent : Consistent guantian
@@ -23,3 +24,7 @@ each-system P g j system = either (eqb system 1)
 
 pub consistent : (system : ℕ) → Consistent (constantsOf system)
 consistent = each-system Consistent guantian-consistent jiyuan-consistent
+
+-- Going forward the year count rises by one a year.
+pub one-a-year : (c : Constants) → Consistent c → (a : ℕ) → yearsElapsed c (a + 1) ≡ yearsElapsed c a + 1
+one-a-year c ok a = omega (arith, ok .epoch-before)

@@ -1,17 +1,20 @@
 -- The laws of months and years in the paper's words, over any constants that meet the list, for every year.
 use Prim.Native.Nat.{ℕ, zero, suc, _+_, _*_, _-_, _/_, _%_, _≤_, _<_}
-use mathlib.Core.Path.{_≡_, refl, subst₂, ap}
+use mathlib.Core.Path.{_≡_, subst, subst₂, ap}
 use mathlib.Core.Logic.{_⊎_, inl, inr, ⊎-elim}
 use native.Mathlib.Omega.{arith}
+use mathlib.Core.Bool.{true}
+use borrow.Author.Tests.{lt-ltb, ltb-true}
 use Rattle.calendar.specs.declared.data.Constants.{Constants}
+use Rattle.calendar.specs.Inside.{Inside}
 use Rattle.calendar.specs.One.{One}
 use Rattle.calendar.specs.Month.{monthHead, InMonth, monthLength, Holds, HoldsSome, Lacks, numberOf, Bears, Marked}
 use Rattle.calendar.specs.Year.{Span, monthCount, yearHead, nextHead, yearLength, lengthsFrom, InYear, DayOfYear, MonthNamed}
 use Rattle.calendar.specs.Consistent.{Consistent}
 use Rattle.calendar.specs.Calendar.{Calendar}
-use Rattle.calendar.specs.ClosedForms.{monthOfQi, qiOfMonth, monthOfDay, firstMonth, yearOfMonth, monthNumber, leapMark}
+use Rattle.calendar.specs.ClosedForms.{monthOfQi, qiOfMonth, monthOfDay, firstMonth, yearOfMonth, monthNumber, leapMark, qiOfNumber, monthCited, leapFollows}
 use Rattle.calendar.proofs.Rising.{by-order}
-use Rattle.calendar.proofs.Months.{head-monotone, month-from, month-before, month-unique, qi-of-held, count-least, count-most, within-of-qi, in-its-year, year-unique, month-again, twelve-hold, thirteen-one-lacks}
+use Rattle.calendar.proofs.Months.{head-monotone, month-from, month-before, month-unique, qi-unique, qi-of-held, count-least, count-most, in-its-year, year-unique, month-again, twelve-hold, thirteen-one-lacks}
 use Rattle.calendar.proofs.Reckoned.{reckoned}
 use Rattle.calendar.proofs.Spans.{span, span-first, span-next, in-year, within}
 use Rattle.calendar.proofs.Numbers.{month-of-held, holds-of-month, held-of-holds, holds-of-held, number-unique, bears-its-number, mark-unique, marked}
@@ -132,7 +135,7 @@ module _ (c : Constants) (ok : Consistent c) where
   pub named : (n k : ℕ) → InYear c n k → MonthNamed c n (monthNumber c k) (leapMark c k) k
   named n k i = record { in-year = i; bears = bears-its-number c ok k; marked = marked c ok k }
 
-  -- which determine it within its year;
+  -- which determine it within its year.
   pub named-unique : (n number mark k l : ℕ) → MonthNamed c n number mark k → MonthNamed c n number mark l → k ≡ l
   named-unique n number mark k l p q =
       let a = number-unique c ok (p .bears) in
@@ -147,15 +150,44 @@ module _ (c : Constants) (ok : Consistent c) where
         ap (λ j. monthOfQi c (12 * n + j)) e,
       )
 
-  -- and numbers 1 to 12 without the mark are all there.
-  pub numbers-all-there : (n number : ℕ) → 1 ≤ number → number ≤ 12 → One (λ k. MonthNamed c n number 0 k)
-  numbers-all-there n number a b =
-      let j = (number + 1) % 12 in
-      let k = monthOfQi c (12 * n + j) in
-      let e : 12 * n + j ≡ qiOfMonth c k = qi-of-held K (12 * n + j) k refl in
-      let numbered : monthNumber c k ≡ number = omega arith in
-      let unmarked : leapMark c k ≡ 0 = omega (arith, ap (monthOfQi c) e) in
-      let it : MonthNamed c n number 0 k =
-      subst₂ (λ x y. MonthNamed c n x y k) numbered unmarked (named n k (in-year c ok n k (within-of-qi K n j (omega arith))))
-      in
-      record { it = k; has = it; only = λ l q. named-unique n number 0 l k q it }
+  -- A month is named by a number and a mark just where the closed form says.
+  pub cited-unique : (n number mark k : ℕ) → number ≤ 12 → MonthNamed c n number mark k → k ≡ monthCited c n number mark
+  cited-unique n number mark k b p =
+      let w = within c ok n k (p .in-year) in
+      let e : 12 * n + qiOfMonth c k % 12 ≡ qiOfNumber n number = omega (arith, number-unique c ok (p .bears)) in
+      omega (arith, month-again K n k w, ap (monthOfQi c) e, mark-unique c ok (p .marked))
+
+  pub leap-follows : (n number k : ℕ) → number ≤ 12 → MonthNamed c n number 1 k → leapFollows c n number ≡ true
+  leap-follows n number k b p =
+      let w = within c ok n k (p .in-year) in
+      let e : qiOfMonth c k ≡ qiOfNumber n number = omega (arith, number-unique c ok (p .bears), year-unique K n k w) in
+      let f = ap (λ g. monthOfQi c (g + 1)) e in
+      lt-ltb (monthOfQi c (qiOfNumber n number) + 1) (monthOfQi c (qiOfNumber n number + 1)) (omega (arith, cited-unique n number 1 k b p, K .qi-before k))
+
+  -- The month that the closed form names has the number and the mark.
+  cited-here : (n number mark : ℕ) → Inside 1 12 number
+      → qiOfNumber n number ≡ qiOfMonth c (monthCited c n number mark)
+      → MonthNamed c n number mark (monthCited c n number mark)
+  cited-here n number mark h e =
+      let k = monthCited c n number mark in
+      let numbered : monthNumber c k ≡ number = omega (arith, h) in
+      let marks : leapMark c k ≡ mark = omega (arith, ap (monthOfQi c) e) in
+      let year : yearOfMonth c k ≡ n = omega arith in
+      subst₂ (λ x y. MonthNamed c n x y k) numbered marks
+      (named n k (subst (λ m. InYear c m k) year (in-year c ok (yearOfMonth c k) k (in-its-year K k))))
+
+  -- Numbers 1 to 12 without the mark are all there; with the mark, where a leap month follows.
+  pub ordinary-cited : (n number : ℕ) → Inside 1 12 number → MonthNamed c n number 0 (monthCited c n number 0)
+  ordinary-cited n number h =
+      cited-here n number 0 h (qi-of-held K (qiOfNumber n number) (monthCited c n number 0) (omega arith))
+
+  pub leap-cited : (n number : ℕ) → Inside 1 12 number → leapFollows c n number ≡ true
+      → MonthNamed c n number 1 (monthCited c n number 1)
+  leap-cited n number h f =
+      cited-here n number 1 h
+      (qi-unique K (qiOfNumber n number) (monthCited c n number 1) (omega arith) (ltb-true _ _ f))
+
+  pub numbers-all-there : (n number : ℕ) → Inside 1 12 number → One (λ k. MonthNamed c n number 0 k)
+  numbers-all-there n number h =
+      let it = ordinary-cited n number h in
+      record { it = monthCited c n number 0; has = it; only = λ l q. named-unique n number 0 l (monthCited c n number 0) q it }

@@ -1,5 +1,5 @@
 -- What holds in every calendar: its months, years and middle qi.
-use Prim.Native.Nat.{ℕ, _+_, _*_, _-_, _/_, _%_, _≤_, _<_}
+use Prim.Native.Nat.{ℕ, zero, suc, _+_, _*_, _-_, _/_, _%_, _≤_, _<_}
 use mathlib.Core.Path.{_≡_, subst, sym, ap}
 use mathlib.Core.Logic.{_⊎_, inl, inr}
 use native.Mathlib.Nat.{zero-add}
@@ -47,6 +47,16 @@ module _ (K : Calendar) where
 
   pub month-before : (k d : ℕ) → d < K .head k → K .monthOfDay d < k
   month-before k d h = below-back (K .head) head-rises (K .monthOfDay d) k (omega (arith, K .day-from d))
+
+  -- a day's count is at least 29 times its month's
+  head-least : (k : ℕ) → 29 * k ≤ K .head k
+  head-least zero = omega arith
+  head-least (suc k) =
+      let e : k + 1 ≡ suc k = omega arith in
+      omega (arith, head-least k, K .month-least k, ap (K .head) e)
+
+  pub month-of-day-most : (d : ℕ) → 29 * K .monthOfDay d ≤ d
+  month-of-day-most d = omega (arith, head-least (K .monthOfDay d), K .day-from d)
 
   -- Middle qi and months.
   pub qi-unique : (g k : ℕ) → K .monthOfQi g ≤ k → k < K .monthOfQi (g + 1) → g ≡ K .qiOfMonth k
@@ -110,6 +120,18 @@ module _ (K : Calendar) where
   pub year-unique : (n k : ℕ) → Within K n k → n ≡ K .qiOfMonth k / 12
   year-unique n k w =
       place-unique (first K) first-rises n (K .qiOfMonth k / 12) k (w .0) (w .1) (in-its-year k .0) (in-its-year k .1)
+
+  -- the year of a day
+  pub year-from : (n d : ℕ) → K .head (first K n) ≤ d → n ≤ K .qiOfMonth (K .monthOfDay d) / 12
+  year-from n d h =
+      let k = K .monthOfDay d in
+      let l : first K n < first K (K .qiOfMonth k / 12 + 1) = omega (arith, month-from (first K n) d h, in-its-year k .1) in
+      omega (arith, below-back (first K) first-rises n (K .qiOfMonth k / 12 + 1) l)
+
+  pub year-before : (n d : ℕ) → d < K .head (first K n) → K .qiOfMonth (K .monthOfDay d) / 12 < n
+  year-before n d h =
+      let k = K .monthOfDay d in
+      below-back (first K) first-rises (K .qiOfMonth k / 12) n (omega (arith, month-before (first K n) d h, in-its-year k .0))
 
   -- Number and mark determine the month: it lies `behind` after the month of the middle qi.
   pub month-again : (n k : ℕ) → Within K n k → K .monthOfQi (12 * n + K .qiOfMonth k % 12) + behind K k ≡ k

@@ -1,6 +1,8 @@
 -- The functions by which the code reckons, beside `monthHead`. Middle qi are counted on from the epoch: g is 12 n + j for middle qi j
 -- of year n, so that nothing needs a case for the turn of the year. All divisions are whole.
 use Prim.Native.Nat.{ℕ, _+_, _*_, _-_, _/_, _%_}
+use mathlib.Core.Bool.{Bool}
+use lib.Dec.{ltb}
 use Rattle.calendar.specs.declared.data.Constants.{Constants}
 use Rattle.calendar.specs.Month.{monthHead, numberOf}
 
@@ -35,3 +37,16 @@ monthNumber c k = numberOf (qiOfMonth c k % 12)
 -- The leap mark of month k: how far it lies behind the month that holds that middle qi, 0 or 1.
 abbrev pub leapMark : Constants → ℕ → ℕ
 leapMark c k = k - monthOfQi c (qiOfMonth c k)
+
+-- The middle qi, counted from the epoch, after which an ordinary month of year n with a number is numbered: the inverse
+-- of `numberOf`.
+abbrev pub qiOfNumber : ℕ → ℕ → ℕ
+qiOfNumber n number = 12 * n + (number + 1) % 12
+
+-- The month of year n with a number and a leap mark: the leap month comes right after the ordinary one.
+abbrev pub monthCited : Constants → ℕ → ℕ → ℕ → ℕ
+monthCited c n number mark = monthOfQi c (qiOfNumber n number) + mark
+
+-- The month right after the ordinary one is leap: it ends before the next middle qi.
+abbrev pub leapFollows : Constants → ℕ → ℕ → Bool
+leapFollows c n number = ltb (monthOfQi c (qiOfNumber n number) + 1) (monthOfQi c (qiOfNumber n number + 1))

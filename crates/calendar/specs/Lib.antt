@@ -9,6 +9,8 @@ pub mod Qi
 pub mod Month
 -- The months and the days of a year, its head and its length; a day's ordinal.
 pub mod Year
+-- A number in a range.
+pub mod Inside
 -- Exactly one number with a property, as the laws say it.
 pub mod One
 -- What the laws ask of a system's constants.

@@ -63,14 +63,14 @@ module _ (system year : ℕ) (s : InScope system year) where
       let most : long ≤ 384 = register-length-most c n r in
       subst (HoldsSheet c n)
       (answered sheetIn noSheet (askedOf (yearRefusal system year) system year) _ refl (in-scope system year s))
-      (record
-        { accepted = refl
-        ; span = span c (consistent system) n
-        ; size = filled-length (nameAt head) noNames long
-        ; name = λ i h.
+      (record {
+        accepted = refl;
+        span = span c (consistent system) n;
+        size = filled-length (nameAt head) noNames long;
+        name = λ i h.
             let same : head + i ≡ registerDay c (headOfYear c n + i) = omega arith in
             filled-below (nameAt head) noNames 0 long i (omega arith) most
             ∙ ap nameOf same
-            ∙ names-agree c (consistent system) (headOfYear c n + i) (omega arith)
-        ; past = λ i h l. filled-past (nameAt head) noNames 0 long i (omega arith) ∙ getD-replicate 384 i 255 0 l
-        })
+            ∙ names-agree c (consistent system) (headOfYear c n + i) (omega arith);
+        past = λ i h l. filled-past (nameAt head) noNames 0 long i (omega arith) ∙ getD-replicate 384 i 255 0 l;
+      })

@@ -31,8 +31,8 @@ module _ {A : Type 0} (f : ℕ → A) (d : List A) where
       by-order i n
       (λ b. getD-set-other (filled f d n) n i (f n) z (omega arith) ∙ filled-below z n i b (omega arith))
       (λ b.
-        let e : i ≡ n = omega arith in
-        rw e (getD-set-same (filled f d n) n (f n) z (omega (arith, filled-length n))))
+      let e : i ≡ n = omega arith in
+      rw e (getD-set-same (filled f d n) n (f n) z (omega (arith, filled-length n))))
 
   pub filled-past : (z : A) (n i : ℕ) → n ≤ i → getD (filled f d n) i z ≡ getD d i z
   unfolding filled

@@ -7,6 +7,10 @@ pub mod Scope
 pub mod Answers
 -- What the laws say of a year within the register.
 pub mod InReach
+-- The month of a year with a number and a leap mark.
+pub mod Cited
+-- The date of a register day.
+pub mod Dated
 -- The value that `year` returns holds the months of the reckoning.
 pub mod MonthsHeld
 -- Filling a list, and reading it.

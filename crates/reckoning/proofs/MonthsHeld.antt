@@ -48,17 +48,17 @@ module _ (c : Constants) (n : ℕ) (r : Reach c n) where
       let m = firstMonth c (n + 1) - f in
       let l = listed c n r in
       let e : f + m ≡ firstMonth c (n + 1) = omega (arith, count-least (reckoned c ok) n) in
-      record
-        { span = span c ok n
-        ; count = refl
-        ; head = λ i h. head-at i (omega arith)
-        ; next = head-at m (omega arith) ∙ ap (monthHead c) e
-        ; number = λ i h. subst (Bears c (f + i)) (sym (filled-below (numberAt c f) noMarks 0 m i h (omega (arith, l .count-most)))) (bears-its-number c ok (f + i))
-        ; leap = λ i h. subst (Marked c (f + i)) (sym (filled-below (leapAt c f) noMarks 0 m i h (omega (arith, l .count-most)))) (marked c ok (f + i))
-        ; unused-head = λ i h. ap (λ d. d .0) (filled-past (headAt c f) noHeads (asRegisterDay 0) (m + 1) i (omega arith) ∙ replicate-reads (asRegisterDay 0) 14 i)
-        ; unused-number = λ i h. filled-past (numberAt c f) noMarks 0 m i h ∙ replicate-reads 0 14 i
-        ; unused-leap = λ i h. filled-past (leapAt c f) noMarks 0 m i h ∙ replicate-reads 0 14 i
-        }
+      record {
+        span = span c ok n;
+        count = refl;
+        head = λ i h. head-at i (omega arith);
+        next = head-at m (omega arith) ∙ ap (monthHead c) e;
+        number = λ i h. subst (Bears c (f + i)) (sym (filled-below (numberAt c f) noMarks 0 m i h (omega (arith, l .count-most)))) (bears-its-number c ok (f + i));
+        leap = λ i h. subst (Marked c (f + i)) (sym (filled-below (leapAt c f) noMarks 0 m i h (omega (arith, l .count-most)))) (marked c ok (f + i));
+        unused-head = λ i h. ap (λ d. d .0) (filled-past (headAt c f) noHeads (asRegisterDay 0) (m + 1) i (omega arith) ∙ replicate-reads (asRegisterDay 0) 14 i);
+        unused-number = λ i h. filled-past (numberAt c f) noMarks 0 m i h ∙ replicate-reads 0 14 i;
+        unused-leap = λ i h. filled-past (leapAt c f) noMarks 0 m i h ∙ replicate-reads 0 14 i;
+      }
 
 -- A value that holds the months of a year is tiled by them.
 module _ (c : Constants) (ok : Consistent c) (n : ℕ) (v : Year) (y : HoldsYear c n v) where
@@ -69,8 +69,8 @@ module _ (c : Constants) (ok : Consistent c) (n : ℕ) (v : Year) (y : HoldsYear
   head-upto i h =
       by-order i (v .count) (y .head i)
       (λ l.
-        let e : i ≡ v .count = omega arith in
-        subst (λ x. headIn v x + c .anchor ≡ monthHead c (y .span .first + x)) (sym e) (y .next ∙ ap (monthHead c) (sym last)))
+      let e : i ≡ v .count = omega arith in
+      subst (λ x. headIn v x + c .anchor ≡ monthHead c (y .span .first + x)) (sym e) (y .next ∙ ap (monthHead c) (sym last)))
 
   head-after : (i : ℕ) → i < v .count → headIn v (i + 1) + c .anchor ≡ monthHead c (y .span .first + i + 1)
   head-after i h = let e : y .span .first + (i + 1) ≡ y .span .first + i + 1 = omega arith in head-upto (i + 1) (omega arith) ∙ ap (monthHead c) e
@@ -89,60 +89,62 @@ module _ (c : Constants) (ok : Consistent c) (n : ℕ) (v : Year) (y : HoldsYear
   tile r a b =
       let e : y .span .first + 0 ≡ y .span .first = omega arith in
       let day : DayOfYear c n (r + c .anchor) =
-        record
-          { span = y .span
-          ; from = omega (arith, head-upto 0 (omega arith), ap (monthHead c) e)
-          ; before = omega (arith, y .next)
-          }
+      record {
+        span = y .span;
+        from = omega (arith, head-upto 0 (omega arith), ap (monthHead c) e);
+        before = omega (arith, y .next);
+      }
       in
       let one = months-cover c ok n (r + c .anchor) day in
       let in-year = one .has .0 in
       let at = placed (one .it) (omega (arith, in-year .from, span-first c ok (in-year .span), span-first c ok (y .span))) (omega (arith, in-year .before, span-next c ok (in-year .span), span-next c ok (y .span))) in
       let i = one .it - y .span .first in
-      record
-        { it = i
-        ; has =
-            ( at .0
-            , omega (arith, one .has .1, head-upto i (omega arith), ap (monthHead c) (at .1))
-            , omega (arith, one .has .1, head-after i (at .0), ap (λ k. monthHead c (k + 1)) (at .1)) )
-        ; only = λ j p. omega (arith, one .only (y .span .first + j) (place-in-year j (p .0), day-in j r (p .0) (p .1) (p .2)))
-        }
+      record {
+        it = i;
+        has = (
+          at .0,
+          omega (arith, one .has .1, head-upto i (omega arith), ap (monthHead c) (at .1)),
+          omega (arith, one .has .1, head-after i (at .0), ap (λ k. monthHead c (k + 1)) (at .1)),
+        );
+        only = λ j p. omega (arith, one .only (y .span .first + j) (place-in-year j (p .0), day-in j r (p .0) (p .1) (p .2)));
+      }
 
   pub tiled : Tiled v
   tiled =
-      record
-        { months = rw (y .count) (year-months c ok (y .span))
-        ; days = λ i h.
+      record {
+        months = rw (y .count) (year-months c ok (y .span));
+        days = λ i h.
             ⊎-elim
             (λ e. inl (omega (arith, head-upto i (omega arith), head-after i h)))
             (λ e. inr (omega (arith, head-upto i (omega arith), head-after i h)))
-            (month-days c ok (y .span .first + i))
-        ; tile = tile
-        ; twelve = λ e i h.
+            (month-days c ok (y .span .first + i));
+        tile = tile;
+        twelve = λ e i h.
             ⊎-elim
             (λ p. p .0)
             (λ p. absurd (p .1 (twelve-none-lacks c ok (y .span) (sym (y .count) ∙ e) (y .span .first + i) (place-in-year i (omega arith)))))
-            (y .leap i (omega arith))
-        ; thirteen = λ e.
+            (y .leap i (omega arith));
+        thirteen = λ e.
             let one = thirteen-one-leap c ok (y .span) (sym (y .count) ∙ e) in
             let in-year = one .has .0 in
             let at = placed (one .it) (omega (arith, in-year .from, span-first c ok (in-year .span), span-first c ok (y .span))) (omega (arith, in-year .before, span-next c ok (in-year .span), span-next c ok (y .span))) in
             let i = one .it - y .span .first in
-            record
-              { it = i
-              ; has =
-                  ( omega (arith, at)
-                  , ⊎-elim
+            record {
+              it = i;
+              has = (
+                omega (arith, at),
+                ⊎-elim
                     (λ p. absurd (subst (λ k. Lacks c k) (sym (at .1)) (one .has .1) (p .1)))
                     (λ p. p .0)
-                    (y .leap i (at .0)) )
-              ; only = λ j p.
+                    (y .leap i (at .0)),
+              );
+              only = λ j p.
                   ⊎-elim
                   (λ q. omega (arith, p .1, q .0))
                   (λ q. omega (arith, one .only (y .span .first + j) (place-in-year j (omega (arith, p .0)), q .1)))
-                  (y .leap j (omega (arith, p .0)))
-              }
-        }
+                  (y .leap j (omega (arith, p .0)));
+            };
+      }
 
 -- So in each system and every year in scope.
 module _ (system year : ℕ) (s : InScope system year) where

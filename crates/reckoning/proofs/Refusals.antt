@@ -5,7 +5,8 @@ use mathlib.Core.Bool.{Bool, true, false, true≢false, cond, _||_}
 use lib.Dec.{ltb}
 use native.Mathlib.Omega.{arith}
 use borrow.Author.Tests.{ltb-false, le-ltb}
-use Rattle.reckoning.specs.Scope.{Inside, InScope}
+use Rattle.calendar.specs.Inside.{Inside}
+use Rattle.reckoning.specs.Scope.{InScope}
 use Rattle.reckoning.specs.Refusal.{outside, yearRefusal, qiRefusal}
 
 -- Where no rule gave a number, the first did not apply, nor did any other.
@@ -35,6 +36,23 @@ accepted system year e =
 pub in-scope : (system year : ℕ) → InScope system year → yearRefusal system year ≡ 0
 unfolding yearRefusal
 in-scope system year s = simp (inside 1 2 system (s .system-inside), inside 1 3000 year (s .year-inside))
+
+-- The rule for a qi number is looked at only where system and year are in scope.
+pub qi-unseen : (system year i : ℕ) → (yearRefusal system year ≡ 0 → ⊥) → yearRefusal system year ≡ qiRefusal system year i
+unfolding yearRefusal qiRefusal
+qi-unseen system year i h = either (outside 1 2 system) (outside 1 3000 year) h
+  where
+    either : (a b : Bool) → (_≡_ {A = ℕ} (cond a 4 (cond b 5 0)) 0 → ⊥)
+        → _≡_ {A = ℕ} (cond a 4 (cond b 5 0)) (cond a 4 (cond b 5 (cond (ltb 23 i) 9 0)))
+    either true b h = refl
+    either false true h = refl
+    either false false h = absurd (h refl)
+
+pub qi-seen : (system year i : ℕ) → yearRefusal system year ≡ 0 → _≡_ {A = ℕ} (cond (ltb 23 i) 9 0) (qiRefusal system year i)
+unfolding qiRefusal
+qi-seen system year i e =
+    let s = accepted system year e in
+    simp (inside 1 2 system (s .system-inside), inside 1 3000 year (s .year-inside))
 
 pub accepted-qi : (system year i : ℕ) → qiRefusal system year i ≡ 0 → InScope system year × (i ≤ 23)
 unfolding qiRefusal

@@ -5,7 +5,7 @@ use Rattle.calendar.specs.declared.data.Constants.{Constants}
 use Rattle.calendar.specs.Systems.{guantian, jiyuan, constantsOf, yearsElapsed}
 use Rattle.calendar.proofs.EachSystem.{each-system}
 use Rattle.reckoning.specs.Room.{Room, Reach}
-use Rattle.reckoning.specs.Scope.{Inside}
+use Rattle.calendar.specs.Inside.{Inside}
 
 pub room : (system : ℕ) → Room (constantsOf system)
 room = each-system Room (omega arith) (omega arith)

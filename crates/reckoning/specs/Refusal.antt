@@ -1,8 +1,11 @@
 -- Numbered refusals, paper 01: checked in the table's order, the first that applies is given, and none otherwise.
-use Prim.Native.Nat.{ℕ}
-use mathlib.Core.Bool.{Bool, cond, _||_}
+use Prim.Native.Nat.{ℕ, _+_}
+use mathlib.Core.Bool.{Bool, cond, not, _&&_, _||_}
 use mathlib.Core.List.{List, [], _∷_}
-use lib.Dec.{ltb}
+use lib.Dec.{ltb, leb, eqb}
+use Rattle.calendar.specs.declared.data.Constants.{Constants}
+use Rattle.calendar.specs.Systems.{yearsElapsed}
+use Rattle.calendar.specs.ClosedForms.{headOfYear, leapFollows}
 
 infixl 20 _if_
 -- A refusal's number, and whether it applies.
@@ -35,3 +38,12 @@ yearRefusal system year = first (wrongSystem system ∷ wrongYear year ∷ [])
 -- and then 9 where a qi is asked.
 unfoldable pub qiRefusal : ℕ → ℕ → ℕ → ℕ
 qiRefusal system year i = first (wrongSystem system ∷ wrongYear year ∷ wrongQi i ∷ [])
+
+-- Refusal 6: the month is not 1 to 12, or the leap mark not 0 or 1, or it is 1 and that month of year n is not leap.
+abbrev pub monthWrong : Constants → ℕ → ℕ → ℕ → Bool
+monthWrong c n number leap = outside 1 12 number || outside 0 1 leap || (eqb leap 1 && not (leapFollows c n number))
+
+-- Refusal 7, of a register day: it is before the head of year 1, or not before the head of year 3001.
+abbrev pub dayWrong : Constants → ℕ → Bool
+dayWrong c r =
+    ltb (r + c .anchor) (headOfYear c (yearsElapsed c 1)) || leb (headOfYear c (yearsElapsed c 3001)) (r + c .anchor)

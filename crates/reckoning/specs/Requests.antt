@@ -1,19 +1,23 @@
 -- What each request answers, for every input: paper 01, "Reckoning" and "Numbered refusals".
 use Prim.Native.Nat.{ℕ, _+_, _-_}
+use mathlib.Core.Bool.{cond}
 use mathlib.Core.List.{List}
 use lib.ListN.{replicate}
 use Rattle.calendar.specs.declared.data.Constants.{Constants}
 use Rattle.calendar.specs.declared.data.RegisterDay.{RegisterDay}
-use Rattle.calendar.specs.Systems.{registerDay}
+use Rattle.calendar.specs.Systems.{constantsOf, registerDay}
 use Rattle.calendar.specs.Name.{nameOf}
 use Rattle.calendar.specs.Qi.{solsticeDay, solsticeRemainder, qi, dayOf, partsOf, unitsOf}
 use Rattle.calendar.specs.Month.{monthHead}
-use Rattle.calendar.specs.ClosedForms.{firstMonth, headOfYear, monthNumber, leapMark}
+use Rattle.calendar.specs.ClosedForms.{monthOfDay, firstMonth, headOfYear, yearOfMonth, monthNumber, leapMark, monthCited}
 use Rattle.reckoning.specs.declared.data.Solstice.{Solstice}
 use Rattle.reckoning.specs.declared.data.Qi.{Qi}
 use Rattle.reckoning.specs.declared.data.Year.{Year}
 use Rattle.reckoning.specs.declared.data.Sheet.{Sheet}
-use Rattle.reckoning.specs.Refusal.{yearRefusal, qiRefusal}
+use Rattle.reckoning.specs.declared.data.Month.{Month}
+use Rattle.reckoning.specs.declared.data.Days.{Days}
+use Rattle.reckoning.specs.declared.data.Date.{Date}
+use Rattle.reckoning.specs.Refusal.{outside, yearRefusal, qiRefusal, monthWrong, dayWrong}
 use Rattle.reckoning.specs.Asked.{askedOf, answerTo}
 use Rattle.reckoning.specs.Filled.{filled}
 
@@ -97,3 +101,52 @@ noSheet refusal = record { refusal = refusal; names = noNames }
 
 unfoldable pub sheetOf : ℕ → ℕ → Sheet
 sheetOf system year = answerTo (askedOf (yearRefusal system year) system year) sheetIn noSheet
+
+-- The days of year n. Refused: zeros.
+abbrev pub daysIn : Constants → ℕ → Days
+daysIn c n =
+    let head = registerDay c (headOfYear c n) in
+    record { refusal = 0; head = asRegisterDay head; length = registerDay c (headOfYear c (n + 1)) - head }
+
+abbrev pub noDays : ℕ → Days
+noDays refusal = record { refusal = refusal; head = asRegisterDay 0; length = 0 }
+
+unfoldable pub daysOf : ℕ → ℕ → Days
+daysOf system year = answerTo (askedOf (yearRefusal system year) system year) daysIn noDays
+
+-- The month of year n with a number and a leap mark; 6 where there is none. Refused: zeros.
+abbrev pub monthAt : Constants → ℕ → Month
+monthAt c k =
+    record { refusal = 0; head = asRegisterDay (registerDay c (monthHead c k)); length = monthHead c (k + 1) - monthHead c k }
+
+abbrev pub noMonth : ℕ → Month
+noMonth refusal = record { refusal = refusal; head = asRegisterDay 0; length = 0 }
+
+unfoldable pub monthIn : Constants → ℕ → ℕ → ℕ → Month
+monthIn c n number leap = cond (monthWrong c n number leap) (noMonth 6) (monthAt c (monthCited c n number leap))
+
+unfoldable pub monthOf : ℕ → ℕ → ℕ → ℕ → Month
+monthOf system year number leap =
+    answerTo (askedOf (yearRefusal system year) system year) (λ c n. monthIn c n number leap) noMonth
+
+-- The date of a register day: its year, its month's number and leap mark, its place in the month; 7 outside years 1 to
+-- 3000. Refused: zeros.
+abbrev pub dateAt : Constants → ℕ → Date
+dateAt c d =
+    let k = monthOfDay c d in
+    record {
+      refusal = 0;
+      year = yearOfMonth c k + c .common - c .elapsed;
+      month = monthNumber c k;
+      leap = leapMark c k;
+      day = d - monthHead c k + 1;
+    }
+
+abbrev pub noDate : ℕ → Date
+noDate refusal = record { refusal = refusal; year = 0; month = 0; leap = 0; day = 0 }
+
+unfoldable pub dateIn : Constants → ℕ → Date
+dateIn c r = cond (dayWrong c r) (noDate 7) (dateAt c (r + c .anchor))
+
+unfoldable pub dateOf : ℕ → ℕ → Date
+dateOf system r = cond (outside 1 2 system) (noDate 4) (dateIn (constantsOf system) r)

@@ -1,9 +1,6 @@
 -- The systems and years in scope: every request for them is answered.
-use Prim.Native.Nat.{ℕ, _≤_}
-
-pub record Inside (least most x : ℕ) : Type 0 where
-  pub at-least : least ≤ x
-  pub at-most : x ≤ most
+use Prim.Native.Nat.{ℕ}
+use Rattle.calendar.specs.Inside.{Inside}
 
 -- Systems 1 and 2, years 1 to 3000.
 pub record InScope (system year : ℕ) : Type 0 where

@@ -39,6 +39,6 @@ pub record Tiled (v : Year) : Type 0 where
   pub months : (v .count ≡ 12) ⊎ (v .count ≡ 13)
   pub days : (i : ℕ) → i < v .count → (headIn v (i + 1) ≡ headIn v i + 29) ⊎ (headIn v (i + 1) ≡ headIn v i + 30)
   pub tile : (r : ℕ) → headIn v 0 ≤ r → r < headIn v (v .count)
-    → One (λ i. (i < v .count) × (headIn v i ≤ r) × (r < headIn v (i + 1)))
+      → One (λ i. (i < v .count) × (headIn v i ≤ r) × (r < headIn v (i + 1)))
   pub twelve : v .count ≡ 12 → (i : ℕ) → i < 12 → leapIn v i ≡ 0
   pub thirteen : v .count ≡ 13 → One (λ i. (i < 13) × (leapIn v i ≡ 1))

@@ -31,3 +31,26 @@ pub struct Sheet {
     pub refusal: u8,
     pub names: [u8; 384],
 }
+
+// A month: its first day and how many days it has.
+pub struct Month {
+    pub refusal: u8,
+    pub head: RegisterDay,
+    pub length: u8,
+}
+
+// The days of a year: the first, and how many.
+pub struct Days {
+    pub refusal: u8,
+    pub head: RegisterDay,
+    pub length: u16,
+}
+
+// A day by year, month number, leap mark and day of the month.
+pub struct Date {
+    pub refusal: u8,
+    pub year: u16,
+    pub month: u8,
+    pub leap: u8,
+    pub day: u8,
+}

@@ -1,12 +1,16 @@
-// The requests by system and year: solstice, qi, months and day sheet; and the name of a day.
+// The requests by system and year: solstice, qi, months, days and day sheet; one month; the date and the name of a day.
 //
 // System, year and qi number come as 32 bits, so that no number is cut before it can be refused. A refused request
 // gives a blank answer that carries the refusal number.
 ghost use mathlib.Core.Path.{_≡_};
 ghost use Rattle.calendar.specs.Name.{nameOf};
-ghost use Rattle.reckoning.specs.Requests.{solsticeOf, qiOf, yearOf, sheetOf};
+ghost use Rattle.reckoning.specs.Requests.{solsticeOf, qiOf, yearOf, sheetOf, daysOf, monthOf, dateOf};
 use calendar::data::DayName;
 use calendar::data::RegisterDay;
+use calendar::systems::constants_of;
+use data::Date;
+use data::Days;
+use data::Month;
 use data::Qi;
 use data::Sheet;
 use data::Solstice;
@@ -15,10 +19,12 @@ use data::Year;
 mod asked;
 mod closed_forms;
 pub mod data;
+mod dates;
 mod months;
 mod names;
 mod refusal;
 mod solar;
+mod year_days;
 
 // The winter solstice of a year.
 pub fn solstice(system: u32, year: u32) -> Solstice
@@ -80,6 +86,46 @@ pub fn sheet(system: u32, year: u32) -> Sheet
         };
     }
     names::of_year(asked.c, asked.n)
+}
+
+// The days of a year.
+pub fn days(system: u32, year: u32) -> Days
+    ensures { λ r. ⌜ r ≡ daysOf system year ⌝ }
+{
+    let asked = asked::of_year(system, year);
+    if asked.refusal != 0 {
+        return Days {
+            refusal: asked.refusal,
+            head: RegisterDay(0),
+            length: 0,
+        };
+    }
+    year_days::of_year(asked.c, asked.n)
+}
+
+// The month of a year with a number and a leap mark; refused 6 where the year has none.
+pub fn month(system: u32, year: u32, number: u32, leap: u32) -> Month
+    ensures { λ r. ⌜ r ≡ monthOf system year number leap ⌝ }
+{
+    let asked = asked::of_year(system, year);
+    if asked.refusal != 0 {
+        return Month {
+            refusal: asked.refusal,
+            head: RegisterDay(0),
+            length: 0,
+        };
+    }
+    months::cited(asked.c, asked.n, number, leap)
+}
+
+// The date of a register day; refused 7 outside years 1 to 3000.
+pub fn date(system: u32, day: RegisterDay) -> Date
+    ensures { λ r. ⌜ r ≡ dateOf system (day .0) ⌝ }
+{
+    if refusal::outside(1, 2, system) {
+        return dates::none(4);
+    }
+    dates::of_day(constants_of(system), day)
 }
 
 // The sixty-day name of a register day.

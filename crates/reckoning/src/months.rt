@@ -1,12 +1,19 @@
-// The months of one year.
+// The months of one year: all of them, and one of them by number and leap mark.
 ghost use mathlib.Core.Path.{_≡_};
-ghost use Rattle.reckoning.specs.Requests.{monthsFrom, yearIn};
-ghost use Rattle.reckoning.specs.Room.{Listed, Reach};
+ghost use Prim.Native.Nat.{_+_, _<_, _^_};
+ghost use Rattle.calendar.specs.Month.{monthHead};
+ghost use Rattle.reckoning.specs.Requests.{monthsFrom, yearIn, monthAt, noMonth, monthIn};
+ghost use Rattle.reckoning.specs.Room.{Room, Registered, Listed, Reach};
 use crate::closed_forms::first_month;
 use crate::closed_forms::leap_mark;
+use crate::closed_forms::month_head;
 use crate::closed_forms::month_number;
+use crate::closed_forms::month_of_qi;
+use crate::closed_forms::register_day;
 use crate::closed_forms::register_head;
+use crate::data::Month;
 use crate::data::Year;
+use crate::refusal::outside;
 use calendar::data::Constants;
 use calendar::data::RegisterDay;
 
@@ -46,4 +53,50 @@ pub(crate) fn of_year(c: Constants, n: u64) -> Year
     let first = first_month(c, n);
     let next = first_month(c, n + 1);
     list(c, first, (next - first) as usize)
+}
+
+// Month k.
+fn at(c: Constants, k: u64) -> Month
+    requires { ⌜ Room c × (k + 1 < 2 ^ 32) × Registered c (monthHead c k) ⌝ }
+    ensures { λ r. ⌜ r ≡ monthAt c k ⌝ }
+{
+    let head = month_head(c, k);
+    let next = month_head(c, k + 1);
+    Month {
+        refusal: 0,
+        head: register_day(c, head),
+        length: (next - head) as u8,
+    }
+}
+
+fn none(refusal: u8) -> Month
+    ensures { λ r. ⌜ r ≡ noMonth refusal ⌝ }
+{
+    Month {
+        refusal: refusal,
+        head: RegisterDay(0),
+        length: 0,
+    }
+}
+
+// The month of year n with a number and a leap mark.
+pub(crate) fn cited(c: Constants, n: u64, number: u32, leap: u32) -> Month
+    requires { ⌜ Reach c n ⌝ }
+    ensures { λ r. ⌜ r ≡ monthIn c n number leap ⌝ }
+{
+    if outside(1, 12, number) {
+        return none(6);
+    }
+    if outside(0, 1, leap) {
+        return none(6);
+    }
+    let g = 12 * n + (number as u64 + 1) % 12;
+    let k = month_of_qi(c, g);
+    if leap == 0 {
+        return at(c, k);
+    }
+    if k + 1 < month_of_qi(c, g + 1) {
+        return at(c, k + 1);
+    }
+    none(6)
 }

@@ -4,8 +4,8 @@ ghost use Prim.Native.Nat.{_≤_};
 ghost use Rattle.reckoning.specs.Requests.{sheetIn, nameAt, noNames};
 ghost use Rattle.reckoning.specs.Filled.{filled};
 ghost use Rattle.reckoning.specs.Room.{Reach};
-use crate::closed_forms::year_head;
 use crate::data::Sheet;
+use crate::year_days;
 use calendar::data::Constants;
 
 // The names of `length` days from register day `head` on, and 255 after them.
@@ -27,9 +27,8 @@ pub(crate) fn of_year(c: Constants, n: u64) -> Sheet
     requires { ⌜ Reach c n ⌝ }
     ensures { λ r. ⌜ r ≡ sheetIn c n ⌝ }
 {
-    let head = year_head(c, n);
-    let next = year_head(c, n + 1);
-    let names = names_from(head.0, (next.0 - head.0) as usize);
+    let days = year_days::of_year(c, n);
+    let names = names_from(days.head.0, days.length as usize);
     Sheet {
         refusal: 0,
         names: names,

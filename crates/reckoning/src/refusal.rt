@@ -1,8 +1,8 @@
-// Numbered refusals of the requests by system and year: each function gives the first that applies, or 0.
+// Numbered refusals of the requests by system and year: `of_` functions give the first that applies, or 0.
 ghost use mathlib.Core.Path.{_≡_};
 ghost use Rattle.reckoning.specs.Refusal.{outside, yearRefusal, qiRefusal};
 
-fn outside(least: u32, most: u32, x: u32) -> bool
+pub(crate) fn outside(least: u32, most: u32, x: u32) -> bool
     ensures { λ r. ⌜ r ≡ outside least most x ⌝ }
 {
     x < least || most < x
@@ -23,11 +23,9 @@ pub(crate) fn of_year(system: u32, year: u32) -> u8
 pub(crate) fn of_qi(system: u32, year: u32, i: u32) -> u8
     ensures { λ r. ⌜ r ≡ qiRefusal system year i ⌝ }
 {
-    if outside(1, 2, system) {
-        return 4;
-    }
-    if outside(1, 3000, year) {
-        return 5;
+    let refusal = of_year(system, year);
+    if refusal != 0 {
+        return refusal;
     }
     if 23 < i {
         return 9;

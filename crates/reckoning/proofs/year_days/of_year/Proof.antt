@@ -1,0 +1,30 @@
+use mathlib.Core.Path.{_≡_, ap, ap₂, subst₂, sym}
+use Prim.Native.Nat.{_-_, _≤_}
+use native.Mathlib.Omega.{arith}
+use Rattle.reckoning.proofs.InReach.{first-small, first-head, next-head, register-rises, register-length-most}
+use borrow.Author.Needs.{needs}
+use Rattle.reckoning.proofs.year_days.of_year.Statement.{statement}
+use Rattle.reckoning.proofs.year_days.of_year.Tie as tie
+
+year-head-requires : tie.Need-year-head-requires
+year-head-requires c κs = (c .pre .room, omega arith, omega (arith, first-small _ _ (c .pre)), first-head _ _ (c .pre))
+
+add-year-head : tie.Need-add-year-head
+add-year-head c = search needs
+
+year-head-requires-2 : tie.Need-year-head-requires-2
+year-head-requires-2 c κs = (c .before .pre .room, omega arith, omega arith, next-head _ _ (c .before .pre))
+
+sub-t6 : tie.Need-sub-t6
+sub-t6 c = subst₂ (λ a b. a ≤ b) (sym (ap (λ d. d .0) (c .before .before .before .year-head .ensures))) (sym (ap (λ d. d .0) (c .before .before .year-head2 .ensures))) (register-rises _ _ (c .before .before .before .before .pre))
+
+cast-t7 : tie.Need-cast-t7
+cast-t7 c = let most = subst₂ (λ a b. b - a ≤ 384) (sym (ap (λ d. d .0) (c .before .before .before .year-head .ensures))) (sym (ap (λ d. d .0) (c .before .before .year-head2 .ensures))) (register-length-most _ _ (c .before .before .before .before .pre)) in omega arith
+
+returns : tie.Need-returns
+returns c = let length = ap₂ (λ a b. b - a) (ap (λ d. d .0) (c .before .before .before .year-head .ensures)) (ap (λ d. d .0) (c .before .before .year-head2 .ensures)) in λ j. record { refusal = 0; head = c .before .before .before .year-head .ensures j; length = length j }
+
+pub of-year-spec : {M : Type 1} → statement M
+of-year-spec =
+    tie.close
+    (tie.spec year-head-requires add-year-head year-head-requires-2 sub-t6 cast-t7 returns)

@@ -1,0 +1,47 @@
+// The date of a day.
+ghost use mathlib.Core.Path.{_≡_};
+ghost use Rattle.reckoning.specs.Requests.{noDate, dateIn};
+ghost use Rattle.reckoning.specs.Room.{Room};
+use crate::closed_forms::month_head;
+use crate::closed_forms::month_of_day;
+use crate::closed_forms::month_of_qi;
+use crate::closed_forms::qi_of_month;
+use crate::data::Date;
+use calendar::data::Constants;
+use calendar::data::RegisterDay;
+
+pub(crate) fn none(refusal: u8) -> Date
+    ensures { λ r. ⌜ r ≡ noDate refusal ⌝ }
+{
+    Date {
+        refusal: refusal,
+        year: 0,
+        month: 0,
+        leap: 0,
+        day: 0,
+    }
+}
+
+// The date of a register day. Its year tells whether the day is in scope, so that no year's head is reckoned.
+pub(crate) fn of_day(c: Constants, day: RegisterDay) -> Date
+    requires { ⌜ Room c ⌝ }
+    ensures { λ r. ⌜ r ≡ dateIn c (day .0) ⌝ }
+{
+    let d = day.0 as u64 + c.anchor;
+    let k = month_of_day(c, d);
+    let g = qi_of_month(c, k);
+    let year = g / 12 + c.common;
+    if year <= c.elapsed {
+        return none(7);
+    }
+    if c.elapsed + 3000 < year {
+        return none(7);
+    }
+    Date {
+        refusal: 0,
+        year: (year - c.elapsed) as u16,
+        month: ((g % 12 + 10) % 12 + 1) as u8,
+        leap: (k - month_of_qi(c, g)) as u8,
+        day: (d - month_head(c, k) + 1) as u8,
+    }
+}
