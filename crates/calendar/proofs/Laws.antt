@@ -54,6 +54,13 @@ module _ (c : Constants) (ok : Consistent c) where
       (λ l. inl (omega (arith, K .thirteen-least (y .first))))
       (λ l. inr (omega (arith, K .thirteen-most (y .first))))
 
+  pub year-length-most : {n : ℕ} (y : Span c n) → yearLength y ≤ 384
+  year-length-most y =
+      ⊎-elim
+      (λ twelve. ⊎-elim (λ e. omega arith) (λ e. omega arith) (days-of-twelve y twelve))
+      (λ thirteen. ⊎-elim (λ e. omega arith) (λ e. omega arith) (days-of-thirteen y thirteen))
+      (year-months y)
+
   -- The lengths of a year's months add up to the distance between its head and the next year's head.
   lengths-telescope : (count k : ℕ) → monthHead c k + lengthsFrom c k count ≡ monthHead c (k + count)
   unfolding lengthsFrom

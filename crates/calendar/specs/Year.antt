@@ -57,3 +57,8 @@ pub record MonthNamed (c : Constants) (n number mark k : ℕ) : Type 0 where
   pub in-year : InYear c n k
   pub bears : Bears c k number
   pub marked : Marked c k mark
+
+-- Year n has a leap month with a number.
+pub record HasLeap (c : Constants) (n number : ℕ) : Type 0 where
+  pub month : ℕ
+  pub is-leap : MonthNamed c n number 1 month

@@ -1,9 +1,13 @@
 -- How a request's answer follows from what it stands on: one law for every request.
-use Prim.Native.Nat.{ℕ}
-use mathlib.Core.Path.{_≡_, _∙_, subst, sym, ap}
+use Prim.Native.Nat.{ℕ, _<_}
+use mathlib.Core.Path.{_≡_, refl, _∙_, subst, sym, ap}
+use native.Mathlib.Omega.{arith}
 use borrow.Author.Tests.{eq-eqb, ne-eqb}
 use Rattle.calendar.specs.declared.data.Constants.{Constants}
 use Rattle.reckoning.specs.declared.asked.Asked.{Asked}
+use Rattle.calendar.specs.Systems.{constantsOf, yearsElapsed}
+use Rattle.reckoning.specs.Refusal.{yearRefusal}
+use Rattle.reckoning.proofs.Refusals.{in-scope}
 use Rattle.reckoning.specs.Asked.{askedOf, answerTo}
 use Rattle.reckoning.specs.Room.{Reach}
 use Rattle.reckoning.specs.Scope.{InScope}
@@ -15,6 +19,19 @@ module _ {A : Type 0} (answer : Constants → ℕ → A) (blank : ℕ → A) whe
 
   pub answered : (a b : Asked) → a ≡ b → a .refusal ≡ 0 → answer (a .c) (a .n) ≡ answerTo b answer blank
   answered a b e given = subst (λ x. answer (a .c) (a .n) ≡ answerTo x answer blank) e (simp (eq-eqb (a .refusal) 0 given))
+
+  -- a request by system and year, refused or answered
+  pub refused-year : (system year refusal : ℕ) → yearRefusal system year ≡ refusal → 0 < refusal
+      → answerTo (askedOf (yearRefusal system year) system year) answer blank ≡ blank refusal
+  refused-year system year refusal e some =
+      let a = askedOf (yearRefusal system year) system year in
+      sym (refused a a refl (λ z. omega arith)) ∙ ap blank e
+
+  pub answered-year : (system year : ℕ) → InScope system year
+      → answer (constantsOf system) (yearsElapsed (constantsOf system) year)
+      ≡ answerTo (askedOf (yearRefusal system year) system year) answer blank
+  answered-year system year s =
+      let a = askedOf (yearRefusal system year) system year in answered a a refl (in-scope system year s)
 
 -- What is asked in scope lies within the register.
 pub within-reach : (a : Asked) (refusal system year : ℕ) → a ≡ askedOf refusal system year → InScope system year → Reach (a .c) (a .n)

@@ -1,7 +1,6 @@
 -- What the laws say of a year within the register.
 use Prim.Native.Nat.{ℕ, _+_, _*_, _-_, _^_, _≤_, _<_}
 use mathlib.Core.Path.{_≡_, ap}
-use mathlib.Core.Logic.{⊎-elim}
 use native.Mathlib.Omega.{arith}
 use Rattle.calendar.specs.declared.data.Constants.{Constants}
 use Rattle.calendar.specs.Systems.{registerDay}
@@ -12,7 +11,7 @@ use Rattle.calendar.specs.Calendar.{Calendar}
 use Rattle.calendar.proofs.Reckoned.{reckoned}
 use Rattle.calendar.proofs.Months.{count-least, count-most, head-monotone}
 use Rattle.calendar.proofs.Spans.{span}
-use Rattle.calendar.proofs.Laws.{year-months, days-of-twelve, days-of-thirteen}
+use Rattle.calendar.proofs.Laws.{year-length-most}
 use Rattle.reckoning.specs.Room.{Registered, Reach, Listed}
 
 module _ (c : Constants) (n : ℕ) (r : Reach c n) where
@@ -44,12 +43,7 @@ module _ (c : Constants) (n : ℕ) (r : Reach c n) where
   next-head = r .head (firstMonth c (n + 1)) (omega (arith, count-least K n)) (omega arith)
 
   length-most : headOfYear c (n + 1) ≤ headOfYear c n + 384
-  length-most =
-      let y = span c ok n in
-      ⊎-elim
-      (λ twelve. ⊎-elim (λ e. omega arith) (λ e. omega arith) (days-of-twelve c ok y twelve))
-      (λ thirteen. ⊎-elim (λ e. omega arith) (λ e. omega arith) (days-of-thirteen c ok y thirteen))
-      (year-months c ok y)
+  length-most = omega (arith, year-length-most c ok (span c ok n))
 
   -- its heads rise in the register too, by 384 at most
   pub register-rises : registerDay c (headOfYear c n) ≤ registerDay c (headOfYear c (n + 1))

@@ -19,3 +19,7 @@ pub mod Fill
 pub mod AnswersHeld
 -- The proved examples of paper 01.
 pub mod Examples
+-- How the other requests end.
+pub mod Outcomes
+-- Answers leave room for the days that follow a head.
+pub mod Fits

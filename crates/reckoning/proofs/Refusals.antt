@@ -1,6 +1,6 @@
 -- Refusals: which rule applies, and what an accepted request has.
 use Prim.Native.Nat.{ℕ, _≤_, _<_}
-use mathlib.Core.Path.{_≡_, refl}
+use mathlib.Core.Path.{_≡_, refl, sym, _∙_}
 use mathlib.Core.Bool.{Bool, true, false, true≢false, cond, _||_}
 use lib.Dec.{ltb}
 use native.Mathlib.Omega.{arith}
@@ -36,6 +36,34 @@ accepted system year e =
 pub in-scope : (system year : ℕ) → InScope system year → yearRefusal system year ≡ 0
 unfolding yearRefusal
 in-scope system year s = simp (inside 1 2 system (s .system-inside), inside 1 3000 year (s .year-inside))
+
+not-inside : (least most x : ℕ) → outside least most x ≡ true → Inside least most x → ⊥
+not-inside least most x e h = true≢false (sym e ∙ inside least most x h)
+
+-- A number is in its range or not.
+pub by-inside : {P : Type 0} (least most x : ℕ) → (outside least most x ≡ true → (Inside least most x → ⊥) → P)
+    → (outside least most x ≡ false → Inside least most x → P)
+    → P
+by-inside {P} least most x out into = go (outside least most x) refl
+  where
+    go : (b : Bool) → outside least most x ≡ b → P
+    go true e = out e (not-inside least most x e)
+    go false e = into e (inside-of least most x e)
+
+-- A request by system and year is refused 4, refused 5, or in scope.
+pub by-scope : {P : Type 0} (system year : ℕ)
+    → ((Inside 1 2 system → ⊥) → yearRefusal system year ≡ 4 → P)
+    → (Inside 1 2 system → (Inside 1 3000 year → ⊥) → yearRefusal system year ≡ 5 → P)
+    → (InScope system year → P)
+    → P
+unfolding yearRefusal
+by-scope system year four five scope =
+    by-inside 1 2 system
+    (λ e no-system. four no-system (simp e))
+    (λ e system-inside.
+    by-inside 1 3000 year
+    (λ f no-year. five system-inside no-year (simp (e, f)))
+    (λ f year-inside. scope (record { system-inside = system-inside; year-inside = year-inside })))
 
 -- The rule for a qi number is looked at only where system and year are in scope.
 pub qi-unseen : (system year i : ℕ) → (yearRefusal system year ≡ 0 → ⊥) → yearRefusal system year ≡ qiRefusal system year i

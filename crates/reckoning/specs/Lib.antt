@@ -9,8 +9,10 @@ pub mod Asked
 pub mod Requests
 -- What the value of a year's months holds, in the paper's words.
 pub mod YearValue
--- What the other answers hold.
+-- What the answers for a solstice, a qi and a day sheet hold.
 pub mod Held
+-- How the other requests can end.
+pub mod Outcomes
 -- Lists filled from their first place on.
 pub mod Filled
 -- Bounds under which the closed forms stay within 64 bits.

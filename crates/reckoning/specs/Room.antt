@@ -22,10 +22,10 @@ pub record Room (c : Constants) : Type 0 where
   pub common-small : c .common ≤ c .elapsed
   pub anchor-small : c .anchor < 2 ^ 35
 
--- Count day d has a register day of 32 bits.
+-- Count day d has a register day of 32 bits, with room for a year's days after it.
 pub record Registered (c : Constants) (d : ℕ) : Type 0 where
   pub from : c .anchor ≤ d
-  pub before : d < c .anchor + 2 ^ 32
+  pub before : d < c .anchor + 2 ^ 31
 
 -- Year n lies within the register.
 pub record Reach (c : Constants) (n : ℕ) : Type 0 where

@@ -22,7 +22,7 @@ pub mod data;
 mod dates;
 mod months;
 mod names;
-mod refusal;
+pub mod refusal;
 mod solar;
 mod year_days;
 

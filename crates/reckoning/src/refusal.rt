@@ -2,7 +2,8 @@
 ghost use mathlib.Core.Path.{_≡_};
 ghost use Rattle.reckoning.specs.Refusal.{outside, yearRefusal, qiRefusal};
 
-pub(crate) fn outside(least: u32, most: u32, x: u32) -> bool
+// x is not `least` to `most`.
+pub fn outside(least: u32, most: u32, x: u32) -> bool
     ensures { λ r. ⌜ r ≡ outside least most x ⌝ }
 {
     x < least || most < x

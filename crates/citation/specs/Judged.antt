@@ -1,0 +1,21 @@
+-- What the parts of the judgement are handed.
+use Prim.Native.Nat.{ℕ, _≤_, _<_}
+use mathlib.Core.Path.{_≡_}
+use mathlib.Core.List.{List}
+use lib.ListN.{length}
+use Rattle.calendar.specs.Inside.{Inside}
+use Rattle.citation.specs.Record.{kindOf, kindLength}
+
+-- Numbers that fit the fields of a kind 1 record.
+pub record Fields (system year month leap day : ℕ) : Type 0 where
+  pub system-byte : system < 256
+  pub year-bytes : year < 65_536
+  pub month-byte : month < 256
+  pub leap-byte : leap < 256
+  pub day-byte : day < 256
+
+-- A record of a kind, as long as the kind is.
+pub record Whole (s : List ℕ) (kind : ℕ) : Type 0 where
+  pub is-kind : kind ≡ kindOf s
+  pub one-to-four : Inside 1 4 kind
+  pub as-long : length s ≡ kindLength kind

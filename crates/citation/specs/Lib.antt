@@ -1,0 +1,11 @@
+-- Citations: their records, the day that they name, their refusals, and what the storing step promises.
+-- The record formats of the four kinds.
+pub mod Record
+-- The month of a citation, and the day that it names, by the reckoning.
+pub mod Named
+-- When each numbered refusal applies, in the table's order.
+pub mod Refused
+-- What the storing step answers and writes, for every input and output.
+pub mod Store
+-- What the parts of the judgement are handed.
+pub mod Judged

@@ -1,0 +1,64 @@
+-- The record formats of the four kinds: paper 01, "Citation records". Numbers are little-endian.
+use Prim.Native.Nat.{ℕ, _+_, _*_, _/_, _%_, _<_}
+use mathlib.Core.Bool.{cond}
+use mathlib.Core.List.{List, [], _∷_}
+use lib.Dec.{leb}
+use lib.ListN.{getD}
+
+-- Numbers of one, two and four bytes at place i.
+abbrev pub byte : List ℕ → ℕ → ℕ
+byte s i = getD s i 0
+
+abbrev pub two : List ℕ → ℕ → ℕ
+two s i = byte s i + 256 * byte s (i + 1)
+
+abbrev pub four : List ℕ → ℕ → ℕ
+four s i = two s i + 65_536 * two s (i + 2)
+
+-- Every element of a list is a byte.
+abbrev pub Bytes : List ℕ → Type 0
+Bytes s = (i : ℕ) → byte s i < 256
+
+-- Bytes 0 and 1: the length of the whole record. Bytes 2 and 3: the kind. Byte 4: the system.
+abbrev pub lengthField : List ℕ → ℕ
+lengthField s = two s 0
+
+abbrev pub kindOf : List ℕ → ℕ
+kindOf s = two s 2
+
+abbrev pub systemOf : List ℕ → ℕ
+systemOf s = byte s 4
+
+-- Kinds 1 and 2 are ten bytes long, kinds 3 and 4 nine.
+abbrev pub kindLength : ℕ → ℕ
+kindLength kind = cond (leb kind 2) 10 9
+
+-- Kinds 1, 2 and 3: the year after byte 4.
+abbrev pub yearIn : List ℕ → ℕ
+yearIn s = two s 5
+
+-- Kinds 1 and 2: then the month, the leap mark, and the day of the month (kind 1) or the name (kind 2).
+abbrev pub monthIn : List ℕ → ℕ
+monthIn s = byte s 7
+
+abbrev pub leapIn : List ℕ → ℕ
+leapIn s = byte s 8
+
+abbrev pub dayIn : List ℕ → ℕ
+dayIn s = byte s 9
+
+abbrev pub nameIn : List ℕ → ℕ
+nameIn s = byte s 9
+
+-- Kind 3: then the ordinal.
+abbrev pub ordinalIn : List ℕ → ℕ
+ordinalIn s = two s 7
+
+-- Kind 4: the register day after byte 4.
+abbrev pub registerDayIn : List ℕ → ℕ
+registerDayIn s = four s 5
+
+-- The kind 1 record of a date.
+abbrev pub recordOf : ℕ → ℕ → ℕ → ℕ → ℕ → List ℕ
+recordOf system year month leap day =
+    10 ∷ 0 ∷ 1 ∷ 0 ∷ system ∷ (year % 256) ∷ (year / 256) ∷ month ∷ leap ∷ day ∷ []

@@ -1,0 +1,85 @@
+-- Numbered refusals: paper 01, the table, in its own words and order.
+use Prim.Native.Nat.{ℕ, _+_, _≤_, _<_}
+use mathlib.Core.Path.{_≡_}
+use mathlib.Core.Logic.{_⊎_}
+use mathlib.Core.List.{List, [], _∷_}
+use lib.ListN.{length}
+use Rattle.calendar.specs.Inside.{Inside}
+use Rattle.calendar.specs.Name.{nameOf}
+use Rattle.calendar.specs.Month.{InMonth, monthLength}
+use Rattle.calendar.specs.Year.{Span, yearLength, HasLeap}
+use Rattle.reckoning.specs.Outcomes.{DayInScope}
+use Rattle.citation.specs.Record.{lengthField, kindOf, systemOf, kindLength, yearIn, monthIn, leapIn, dayIn, nameIn, ordinalIn, registerDayIn}
+use Rattle.citation.specs.Named.{constantsIn, elapsedIn, MonthIn}
+
+-- 1: input has fewer than 4 bytes.
+abbrev pub TooShort : List ℕ → Type 0
+TooShort s = length s < 4
+
+-- 2: kind is not 1 to 4.
+abbrev pub WrongKind : List ℕ → Type 0
+WrongKind s = Inside 1 4 (kindOf s) → ⊥
+
+-- 3: length field is not the kind's length, or the input's own length differs from it.
+abbrev pub WrongLength : List ℕ → Type 0
+WrongLength s = (lengthField s ≡ kindLength (kindOf s)) × (length s ≡ lengthField s) → ⊥
+
+-- 4: system is not 1 or 2.
+abbrev pub WrongSystem : List ℕ → Type 0
+WrongSystem s = Inside 1 2 (systemOf s) → ⊥
+
+-- 5: year is not 1 to 3000 (kinds 1, 2, 3).
+abbrev pub WrongYear : List ℕ → Type 0
+WrongYear s = (kindOf s ≤ 3) × (Inside 1 3000 (yearIn s) → ⊥)
+
+-- 6: month not 1 to 12, or leap not 0 or 1, or leap is 1 and that month of that year is not leap (kinds 1, 2).
+abbrev pub WrongMonth : List ℕ → Type 0
+WrongMonth s =
+    (kindOf s ≤ 2)
+    × ((Inside 1 12 (monthIn s) → ⊥) ⊎ ((Inside 0 1 (leapIn s) → ⊥) ⊎ ((leapIn s ≡ 1) × (HasLeap (constantsIn s) (elapsedIn s) (monthIn s) → ⊥))))
+
+-- The day, name or ordinal is in the month or year named, or the register day is one of years 1 to 3000.
+pub data Placed (s : List ℕ) : Type 0 where
+  day-in-month : kindOf s ≡ 1 → (k : ℕ) → MonthIn s k → Inside 1 (monthLength (constantsIn s) k) (dayIn s) → Placed s
+  name-in-month : kindOf s ≡ 2 → (k r : ℕ) → MonthIn s k → InMonth (constantsIn s) k (r + constantsIn s .anchor) → nameOf r ≡ nameIn s → Placed s
+  ordinal-in-year : kindOf s ≡ 3 → (y : Span (constantsIn s) (elapsedIn s)) → Inside 1 (yearLength y) (ordinalIn s) → Placed s
+  day-in-scope : kindOf s ≡ 4 → DayInScope (systemOf s) (registerDayIn s) → Placed s
+
+-- 7: it is not.
+abbrev pub NotPlaced : List ℕ → Type 0
+NotPlaced s = Placed s → ⊥
+
+-- 8: output has fewer than 10 bytes.
+abbrev pub NoRoom : ℕ → Type 0
+NoRoom room = room < 10
+
+infixl 80 _when_
+-- A row of the table: a refusal's number, and what makes it apply.
+pub data Row : Type 1 where
+  _when_ : ℕ → Type 0 → Row
+
+-- The number of the first row that applies, and 0 where none does.
+abbrev pub FirstOf : List Row → ℕ → Type 0
+FirstOf [] number = number ≡ 0
+FirstOf ((refusal when applies) ∷ rows) number =
+    ((number ≡ refusal) × applies) ⊎ ((applies → ⊥) × FirstOf rows number)
+
+-- The rows that judge a citation by its bytes,
+abbrev pub citationRows : List ℕ → List Row → List Row
+citationRows s rows =
+    1 when TooShort s
+    ∷ 2 when WrongKind s
+    ∷ 3 when WrongLength s
+    ∷ 4 when WrongSystem s
+    ∷ 5 when WrongYear s
+    ∷ 6 when WrongMonth s
+    ∷ 7 when NotPlaced s
+    ∷ rows
+
+-- and, for a storing, its output too.
+abbrev pub storingRows : List ℕ → ℕ → List Row
+storingRows s room = citationRows s (8 when NoRoom room ∷ [])
+
+-- A citation is accepted when none of the numbered refusals applies to its bytes.
+abbrev pub Accepted : List ℕ → Type 0
+Accepted s = FirstOf (citationRows s []) 0

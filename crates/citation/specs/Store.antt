@@ -1,0 +1,105 @@
+-- What the storing step answers and writes, for every input and output.
+use Prim.Native.Nat.{ℕ, _+_, _*_, _-_, _^_, _%_, _<_}
+use mathlib.Core.Bool.{Bool, cond, not, _&&_, _||_}
+use mathlib.Core.List.{List, [], _∷_, _++_}
+use lib.Dec.{ltb, leb, eqb}
+use lib.ListN.{length, replicate, drop}
+use Rattle.calendar.specs.Name.{nameOf}
+use Rattle.reckoning.specs.Refusal.{outside}
+use Rattle.reckoning.specs.Requests.{daysOf, monthOf, dateOf}
+use Rattle.reckoning.specs.declared.data.Days.{Days}
+use Rattle.reckoning.specs.declared.data.Month.{Month}
+use Rattle.reckoning.specs.declared.data.Date.{Date}
+use Rattle.citation.specs.declared.judge.Judgement.{Judgement}
+use Rattle.citation.specs.Record.{lengthField, kindOf, systemOf, kindLength, yearIn, monthIn, leapIn, dayIn, nameIn, ordinalIn, registerDayIn, recordOf}
+
+-- A citation's judgement: its refusal number, or 0 with the day that it names and its stored record.
+abbrev pub refuse : ℕ → Judgement
+refuse refusal = record { refusal = refusal; day = 0; stored = replicate 10 0 }
+
+abbrev pub accept : ℕ → ℕ → ℕ → ℕ → ℕ → ℕ → Judgement
+accept r system year month leap day = record { refusal = 0; day = r; stored = recordOf system year month leap day }
+
+-- Refused as the reckoning refuses, and judged otherwise.
+abbrev pub unlessRefused : ℕ → Judgement → Judgement
+unlessRefused refusal j = cond (eqb refusal 0) j (refuse refusal)
+
+-- Refused 7 where the place is wrong, and judged otherwise.
+abbrev pub unlessWrong : Bool → Judgement → Judgement
+unlessWrong wrong j = cond wrong (refuse 7) j
+
+-- Kind 4: the register day, stored by its date.
+abbrev pub judgeDate : Date → ℕ → ℕ → Judgement
+judgeDate d system r = unlessRefused (d .refusal) (accept r system (d .year) (d .month) (d .leap) (d .day))
+
+unfoldable pub judgeRegisterDay : ℕ → ℕ → Judgement
+judgeRegisterDay system r = judgeDate (dateOf system r) system r
+
+-- Kind 3: the day of the year with the ordinal.
+abbrev pub judgeInYear : Days → ℕ → ℕ → Judgement
+judgeInYear y system ordinal =
+    unlessRefused (y .refusal)
+    (unlessWrong (outside 1 (y .length) ordinal) (judgeRegisterDay system (y .head .0 + ordinal - 1)))
+
+unfoldable pub judgeOrdinal : ℕ → ℕ → ℕ → Judgement
+judgeOrdinal system year ordinal = judgeInYear (daysOf system year) system ordinal
+
+-- Kind 1: the day of the month.
+abbrev pub judgeInMonth : Month → ℕ → ℕ → ℕ → ℕ → ℕ → Judgement
+judgeInMonth m system year month leap day =
+    unlessRefused (m .refusal)
+    (unlessWrong (outside 1 (m .length) day) (accept (m .head .0 + day - 1) system year month leap day))
+
+unfoldable pub judgeDay : ℕ → ℕ → ℕ → ℕ → ℕ → Judgement
+judgeDay system year month leap day = judgeInMonth (monthOf system year month leap) system year month leap day
+
+-- Days from a month's head to the next day with a name.
+abbrev pub daysToName : ℕ → ℕ → ℕ
+daysToName head name = (name + 60 - nameOf head) % 60
+
+-- Kind 2: the day of the month with the name.
+abbrev pub judgeNameInMonth : Month → ℕ → ℕ → ℕ → ℕ → ℕ → Judgement
+judgeNameInMonth m system year month leap name =
+    unlessRefused (m .refusal)
+    (unlessWrong (ltb 59 name || leb (m .length) (daysToName (m .head .0) name))
+    (accept (m .head .0 + daysToName (m .head .0) name) system year month leap (daysToName (m .head .0) name + 1)))
+
+unfoldable pub judgeName : ℕ → ℕ → ℕ → ℕ → ℕ → Judgement
+judgeName system year month leap name = judgeNameInMonth (monthOf system year month leap) system year month leap name
+
+-- Length field and input length are the kind's.
+abbrev pub lengthWrong : List ℕ → Bool
+lengthWrong s = not (eqb (lengthField s) (kindLength (kindOf s)) && eqb (length s) (lengthField s))
+
+unfoldable pub judgeKind : List ℕ → Judgement
+judgeKind s =
+    cond (eqb (kindOf s) 1)
+    (judgeDay (systemOf s) (yearIn s) (monthIn s) (leapIn s) (dayIn s))
+    (cond (eqb (kindOf s) 2)
+    (judgeName (systemOf s) (yearIn s) (monthIn s) (leapIn s) (nameIn s))
+    (cond (eqb (kindOf s) 3)
+    (judgeOrdinal (systemOf s) (yearIn s) (ordinalIn s))
+    (judgeRegisterDay (systemOf s) (registerDayIn s))))
+
+unfoldable pub judgeOf : List ℕ → Judgement
+judgeOf s =
+    cond (ltb (length s) 4)
+    (refuse 1)
+    (cond (outside 1 4 (kindOf s))
+    (refuse 2)
+    (cond (lengthWrong s)
+    (refuse 3)
+    (judgeKind s)))
+
+-- The refusal of a storing: the citation's own, and then 8 where the output has fewer than 10 bytes.
+unfoldable pub refusalOf : List ℕ → ℕ → ℕ
+refusalOf s room = cond (eqb ((judgeOf s) .refusal) 0) (cond (ltb room 10) 8 0) ((judgeOf s) .refusal)
+
+-- The answer: the register day, 0 where refused, plus 2^32 times the refusal number.
+unfoldable pub answerOf : List ℕ → ℕ → ℕ
+answerOf s room = cond (eqb (refusalOf s room) 0) ((judgeOf s) .day) 0 + 2 ^ 32 * refusalOf s room
+
+-- The output afterwards: the stored record in the first ten bytes and the rest left; where refused, as it was.
+unfoldable pub storedInto : List ℕ → List ℕ → List ℕ
+storedInto s before =
+    cond (eqb (refusalOf s (length before)) 0) ((judgeOf s) .stored ++ drop 10 before) before

@@ -1,0 +1,166 @@
+// The judgement of a citation: its refusal, or the day that it names and its stored record.
+ghost use mathlib.Core.Path.{_≡_};
+ghost use Prim.Native.Nat.{_<_};
+ghost use Rattle.citation.specs.Store.{refuse, accept, judgeRegisterDay, judgeOrdinal, judgeDay, judgeName, judgeKind, judgeOf};
+ghost use Rattle.citation.specs.Record.{kindLength};
+ghost use Rattle.citation.specs.Judged.{Fields, Whole};
+use crate::reading::byte;
+use crate::reading::four;
+use crate::reading::two;
+use calendar::data::DayName;
+use calendar::data::Ordinal;
+use calendar::data::RegisterDay;
+use reckoning::refusal::outside;
+
+// `refusal` is 0 when the citation is accepted; refused, day and record are zeros.
+pub struct Judgement {
+    pub refusal: u8,
+    pub day: u32,
+    pub stored: [u8; 10],
+}
+
+fn refuse(refusal: u8) -> Judgement
+    ensures { λ r. ⌜ r ≡ refuse refusal ⌝ }
+{
+    Judgement {
+        refusal: refusal,
+        day: 0,
+        stored: [0u8; 10],
+    }
+}
+
+fn accept(r: u32, system: u32, year: u32, month: u32, leap: u32, day: u32) -> Judgement
+    requires { ⌜ Fields system year month leap day ⌝ }
+    ensures { λ j. ⌜ j ≡ accept r system year month leap day ⌝ }
+{
+    Judgement {
+        refusal: 0,
+        day: r,
+        stored: [
+            10,
+            0,
+            1,
+            0,
+            system as u8,
+            (year % 256) as u8,
+            (year / 256) as u8,
+            month as u8,
+            leap as u8,
+            day as u8,
+        ],
+    }
+}
+
+// Kind 4.
+fn register_day(system: u32, day: RegisterDay) -> Judgement
+    requires { ⌜ system < 256 ⌝ }
+    ensures { λ r. ⌜ r ≡ judgeRegisterDay system (day .0) ⌝ }
+{
+    let d = reckoning::date(system, day);
+    if d.refusal != 0 {
+        return refuse(d.refusal);
+    }
+    accept(
+        day.0,
+        system,
+        d.year as u32,
+        d.month as u32,
+        d.leap as u32,
+        d.day as u32,
+    )
+}
+
+// Kind 3.
+fn ordinal(system: u32, year: u32, ordinal: Ordinal) -> Judgement
+    requires { ⌜ system < 256 ⌝ }
+    ensures { λ r. ⌜ r ≡ judgeOrdinal system year (ordinal .0) ⌝ }
+{
+    let y = reckoning::days(system, year);
+    if y.refusal != 0 {
+        return refuse(y.refusal);
+    }
+    if outside(1, y.length as u32, ordinal.0 as u32) {
+        return refuse(7);
+    }
+    register_day(system, RegisterDay(y.head.0 + ordinal.0 as u32 - 1))
+}
+
+// Kind 1.
+fn day(system: u32, year: u32, month: u32, leap: u32, day: u32) -> Judgement
+    requires { ⌜ Fields system year month leap day ⌝ }
+    ensures { λ r. ⌜ r ≡ judgeDay system year month leap day ⌝ }
+{
+    let m = reckoning::month(system, year, month, leap);
+    if m.refusal != 0 {
+        return refuse(m.refusal);
+    }
+    if outside(1, m.length as u32, day) {
+        return refuse(7);
+    }
+    accept(m.head.0 + day - 1, system, year, month, leap, day)
+}
+
+// Kind 2.
+fn name(system: u32, year: u32, month: u32, leap: u32, name: DayName) -> Judgement
+    requires { ⌜ Fields system year month leap 0 ⌝ }
+    ensures { λ r. ⌜ r ≡ judgeName system year month leap (name .0) ⌝ }
+{
+    let m = reckoning::month(system, year, month, leap);
+    if m.refusal != 0 {
+        return refuse(m.refusal);
+    }
+    if 59 < name.0 {
+        return refuse(7);
+    }
+    let days = (name.0 as u32 + 60 - reckoning::day_name(m.head).0 as u32) % 60;
+    if m.length as u32 <= days {
+        return refuse(7);
+    }
+    accept(m.head.0 + days, system, year, month, leap, days + 1)
+}
+
+// A record whose kind and length are right.
+fn kind(s: &[u8], kind: u32) -> Judgement
+    requires { ⌜ Whole (now s) kind ⌝ }
+    ensures { λ r. ⌜ r ≡ judgeKind (now (s .entry)) ⌝ }
+{
+    let system = byte(s, 4);
+    if kind == 1 {
+        return day(system, two(s, 5), byte(s, 7), byte(s, 8), byte(s, 9));
+    }
+    if kind == 2 {
+        return name(system, two(s, 5), byte(s, 7), byte(s, 8), DayName(s[9]));
+    }
+    if kind == 3 {
+        return ordinal(system, two(s, 5), Ordinal(two(s, 7) as u16));
+    }
+    register_day(system, RegisterDay(four(s, 5)))
+}
+
+// Any bytes.
+pub fn judge(s: &[u8]) -> Judgement
+    ensures { λ r. ⌜ r ≡ judgeOf (now (s .entry)) ⌝ }
+{
+    if s.len() < 4 {
+        return refuse(1);
+    }
+    let k = two(s, 2);
+    if outside(1, 4, k) {
+        return refuse(2);
+    }
+    let length = kind_length(k);
+    if two(s, 0) != length {
+        return refuse(3);
+    }
+    if s.len() != length as usize {
+        return refuse(3);
+    }
+    kind(s, k)
+}
+
+// Bytes in a record of a kind.
+fn kind_length(kind: u32) -> u32
+    ensures { λ r. ⌜ r ≡ kindLength kind ⌝ }
+{
+    if kind <= 2 { 10 } else { 9 }
+}

@@ -1,0 +1,56 @@
+-- Answers leave room in 32 bits for the days that follow a head.
+use Prim.Native.Nat.{ℕ, _+_, _^_, _≤_, _<_}
+use mathlib.Core.Path.{_≡_, subst, ap, sym}
+use native.Mathlib.Omega.{arith}
+use Rattle.calendar.specs.Systems.{constantsOf, yearsElapsed}
+use Rattle.calendar.specs.Month.{monthHead}
+use Rattle.calendar.proofs.EachSystem.{consistent}
+use Rattle.calendar.proofs.Reckoned.{reckoned}
+use Rattle.calendar.proofs.Spans.{span-first, within}
+use Rattle.calendar.proofs.Laws.{year-length-most}
+use Rattle.reckoning.specs.declared.data.Month.{Month}
+use Rattle.reckoning.specs.declared.data.Days.{Days}
+use Rattle.reckoning.specs.Requests.{daysOf, monthOf}
+use Rattle.reckoning.specs.Outcomes.{DaysOutcome, MonthOutcome}
+use Rattle.reckoning.proofs.Scope.{reach}
+use Rattle.reckoning.proofs.InReach.{first-head}
+use Rattle.reckoning.proofs.Outcomes.{days-outcome, month-outcome}
+
+pub record MonthFits (v : Month) : Type 0 where
+  pub head-small : v .head .0 < 2 ^ 31
+  pub length-most : v .length ≤ 30
+
+pub month-fits : (system year number leap : ℕ) (v : Month) → v ≡ monthOf system year number leap → v .refusal ≡ 0 → MonthFits v
+month-fits system year number leap v e z = go (subst (MonthOutcome system year number leap) (sym e) (month-outcome system year number leap))
+  where
+    go : MonthOutcome system year number leap v → MonthFits v
+    go (MonthOutcome.system-refused w f) = absurd (omega (arith, ap (λ m. m .refusal) f))
+    go (MonthOutcome.year-refused i w f) = absurd (omega (arith, ap (λ m. m .refusal) f))
+    go (MonthOutcome.month-refused s w f) = absurd (omega (arith, ap (λ m. m .refusal) f))
+    go (MonthOutcome.found s a b k m f head length) =
+        let c = constantsOf system in
+        let n = yearsElapsed c year in
+        let w = within c (consistent system) n k (m .in-year) in
+        record {
+          head-small = omega (arith, (reach system year (s .year-inside)) .head k (w .0) (omega arith));
+          length-most = omega (arith, (reckoned c (consistent system)) .month-most k);
+        }
+
+pub record DaysFit (v : Days) : Type 0 where
+  pub head-small : v .head .0 < 2 ^ 31
+  pub length-most : v .length ≤ 384
+
+pub days-fit : (system year : ℕ) (v : Days) → v ≡ daysOf system year → v .refusal ≡ 0 → DaysFit v
+days-fit system year v e z = go (subst (DaysOutcome system year) (sym e) (days-outcome system year))
+  where
+    go : DaysOutcome system year v → DaysFit v
+    go (DaysOutcome.system-refused w f) = absurd (omega (arith, ap (λ m. m .refusal) f))
+    go (DaysOutcome.year-refused i w f) = absurd (omega (arith, ap (λ m. m .refusal) f))
+    go (DaysOutcome.found s y f head length) =
+        let c = constantsOf system in
+        let n = yearsElapsed c year in
+        let ok = consistent system in
+        record {
+          head-small = omega (arith, first-head c n (reach system year (s .year-inside)), ap (monthHead c) (span-first c ok y));
+          length-most = omega (arith, year-length-most c ok y);
+        }

@@ -1,0 +1,174 @@
+-- How the requests for a year's days, for one month and for a date end, in the paper's words.
+use Prim.Native.Nat.{ℕ, _+_, _-_, _≤_, _<_}
+use mathlib.Core.Path.{_≡_, refl, subst, sym, ap, _∙_}
+use mathlib.Core.Bool.{Bool, true, false, true≢false, _||_}
+use lib.Dec.{ltb, leb}
+use borrow.Author.Tests.{ltb-false, leb-false, le-ltb, lt-leb}
+use mathlib.Core.Logic.{_⊎_, inl, inr}
+use native.Mathlib.Omega.{arith}
+use Rattle.calendar.specs.declared.data.Constants.{Constants}
+use Rattle.calendar.specs.Inside.{Inside}
+use Rattle.calendar.specs.Systems.{constantsOf, yearsElapsed}
+use Rattle.calendar.specs.Month.{monthHead}
+use Rattle.calendar.specs.Year.{MonthNamed, HasLeap}
+use Rattle.calendar.specs.Consistent.{Consistent}
+use Rattle.calendar.specs.Calendar.{Calendar}
+use Rattle.calendar.specs.ClosedForms.{monthOfDay, yearOfMonth, headOfYear, monthNumber, leapMark, monthCited, leapFollows}
+use Rattle.calendar.proofs.EachSystem.{consistent}
+use Rattle.calendar.proofs.Rising.{by-order}
+use Rattle.calendar.proofs.Reckoned.{reckoned}
+use Rattle.calendar.proofs.Spans.{span, span-first, in-year, within}
+use Rattle.calendar.proofs.Months.{in-its-year, year-from, year-before}
+use Rattle.calendar.proofs.Laws.{named, leap-follows, ordinary-cited, leap-cited}
+use Rattle.reckoning.specs.Scope.{InScope}
+use Rattle.reckoning.specs.Room.{Registered, Reach}
+use Rattle.reckoning.specs.Refusal.{outside, yearRefusal, dayWrong}
+use Rattle.reckoning.specs.Requests.{daysIn, noDays, daysOf, monthAt, noMonth, monthIn, monthOf, noDate, dateAt, dateIn, dateOf}
+use Rattle.reckoning.specs.Outcomes as O
+use Rattle.reckoning.proofs.Refusals.{by-inside, by-scope}
+use Rattle.reckoning.proofs.Scope.{room, reach}
+use Rattle.reckoning.proofs.Answers.{refused-year, answered-year}
+use Rattle.reckoning.proofs.InReach.{first-head, next-head}
+use Rattle.reckoning.proofs.Cited.{number-wrong, mark-wrong, ordinary-month, leap-month, leap-lacks, ordinary-registered}
+use Rattle.reckoning.proofs.Dated.{date-answered}
+
+pub days-outcome : (system year : ℕ) → O.DaysOutcome system year (daysOf system year)
+unfolding daysOf
+days-outcome system year =
+    by-scope system year
+    (λ no-system e. O.DaysOutcome.system-refused no-system (refused-year daysIn noDays system year 4 e (omega arith)))
+    (λ s no-year e. O.DaysOutcome.year-refused s no-year (refused-year daysIn noDays system year 5 e (omega arith)))
+    (λ s.
+    let c = constantsOf system in
+    let n = yearsElapsed c year in
+    let r = reach system year (s .year-inside) in
+    let a = first-head c n r in
+    let b = next-head c n r in
+    subst (O.DaysOutcome system year) (answered-year daysIn noDays system year s)
+    (O.DaysOutcome.found s (span c (consistent system) n) refl (omega arith) (omega arith)))
+
+by-bool : {P : Type 0} (b : Bool) → (b ≡ true → P) → (b ≡ false → P) → P
+by-bool true f g = f refl
+by-bool false f g = g refl
+
+-- A month of a year in scope, answered.
+found-month : (system year number leap k : ℕ) → InScope system year → Inside 1 12 number → Inside 0 1 leap
+    → MonthNamed (constantsOf system) (yearsElapsed (constantsOf system) year) number leap k
+    → monthAt (constantsOf system) k ≡ monthOf system year number leap
+    → O.MonthOutcome system year number leap (monthOf system year number leap)
+found-month system year number leap k s a b m e =
+    let c = constantsOf system in
+    let n = yearsElapsed c year in
+    let w = within c (consistent system) n k (m .in-year) in
+    let r = (reach system year (s .year-inside)) .head k (w .0) (omega arith) in
+    subst (O.MonthOutcome system year number leap) e (O.MonthOutcome.found s a b k m refl (omega arith) refl)
+
+month-refused : (system year number leap refusal : ℕ) → yearRefusal system year ≡ refusal → 0 < refusal
+    → monthOf system year number leap ≡ noMonth refusal
+unfolding monthOf
+month-refused system year number leap refusal e some =
+    refused-year (λ c n. monthIn c n number leap) noMonth system year refusal e some
+
+month-answered : (system year number leap : ℕ) → InScope system year
+    → monthIn (constantsOf system) (yearsElapsed (constantsOf system) year) number leap ≡ monthOf system year number leap
+unfolding monthOf
+month-answered system year number leap s = answered-year (λ c n. monthIn c n number leap) noMonth system year s
+
+pub month-outcome : (system year number leap : ℕ) → O.MonthOutcome system year number leap (monthOf system year number leap)
+month-outcome system year number leap =
+    let c = constantsOf system in
+    let n = yearsElapsed c year in
+    let ok = consistent system in
+    by-scope system year
+    (λ no-system e. O.MonthOutcome.system-refused no-system (month-refused system year number leap 4 e (omega arith)))
+    (λ s no-year e. O.MonthOutcome.year-refused s no-year (month-refused system year number leap 5 e (omega arith)))
+    (λ s.
+    by-inside 1 12 number
+    (λ e no-number. O.MonthOutcome.month-refused s (inl no-number) (sym (number-wrong c n number leap e ∙ month-answered system year number leap s)))
+    (λ e number-inside.
+    by-inside 0 1 leap
+    (λ f no-mark. O.MonthOutcome.month-refused s (inr (inl no-mark)) (sym (mark-wrong c n number leap e f ∙ month-answered system year number leap s)))
+    (λ f mark-inside.
+    by-order leap 1
+    (λ l.
+    let zero-mark : leap ≡ 0 = omega arith in
+    found-month system year number leap (monthCited c n number 0) s number-inside mark-inside
+    (subst (λ x. MonthNamed c n number x (monthCited c n number 0)) (sym zero-mark) (ordinary-cited c ok n number number-inside))
+    (ap (monthAt c) (omega arith) ∙ ordinary-month c n number leap e f zero-mark ∙ month-answered system year number leap s))
+    (λ l.
+    let one : leap ≡ 1 = omega arith in
+    by-bool (leapFollows c n number)
+    (λ g.
+    found-month system year number leap (monthCited c n number 1) s number-inside mark-inside
+    (subst (λ x. MonthNamed c n number x (monthCited c n number 1)) (sym one) (leap-cited c ok n number number-inside g))
+    (leap-month c n number leap e f (λ z. omega arith) g ∙ month-answered system year number leap s))
+    (λ g.
+    O.MonthOutcome.month-refused s
+    (inr (inr (one, λ h. true≢false (sym (leap-follows c ok n number (h .month) (number-inside .at-most) (h .is-leap)) ∙ g))))
+    (sym (leap-lacks c n number leap e f (λ z. omega arith) g ∙ month-answered system year number leap s)))))))
+
+neither : (a b c d : ℕ) → ltb a b || leb c d ≡ false → (b ≤ a) × (d < c)
+neither a b c d e = go (ltb a b) (leb c d) refl refl e
+  where
+    go : (x y : Bool) → ltb a b ≡ x → leb c d ≡ y → x || y ≡ false → (b ≤ a) × (d < c)
+    go true y p q f = absurd (true≢false f)
+    go false true p q f = absurd (true≢false f)
+    go false false p q f = (ltb-false a b p, leb-false c d q)
+
+-- A register day is one of years 1 to 3000, or refused.
+scope-day-right : (system r : ℕ) → O.DayInScope system r → dayWrong (constantsOf system) r ≡ false
+scope-day-right system r p =
+    let c = constantsOf system in
+    let ok = consistent system in
+    let a = ap (monthHead c) (span-first c ok (p .first)) in
+    let b = ap (monthHead c) (span-first c ok (p .past)) in
+    simp (
+      le-ltb (r + c .anchor) (headOfYear c (yearsElapsed c 1)) (omega (arith, p .from)),
+      lt-leb (headOfYear c (yearsElapsed c 3001)) (r + c .anchor) (omega (arith, p .before)),
+    )
+
+by-day-scope : {P : Type 0} (system r : ℕ)
+    → (dayWrong (constantsOf system) r ≡ true → (O.DayInScope system r → ⊥) → P)
+    → (dayWrong (constantsOf system) r ≡ false → O.DayInScope system r → P)
+    → P
+by-day-scope system r out into =
+    let c = constantsOf system in
+    let ok = consistent system in
+    by-bool (dayWrong c r)
+    (λ e. out e (λ p. true≢false (sym e ∙ scope-day-right system r p)))
+    (λ e.
+    let bounds = neither (r + c .anchor) (headOfYear c (yearsElapsed c 1)) (headOfYear c (yearsElapsed c 3001)) (r + c .anchor) e in
+    into e (record { first = span c ok (yearsElapsed c 1); past = span c ok (yearsElapsed c 3001); from = bounds .0; before = bounds .1 }))
+
+-- The date of a day in scope, by the closed forms.
+found-date : (system r : ℕ) → Inside 1 2 system → O.DayInScope system r → O.DateOutcome system r (dateAt (constantsOf system) (r + constantsOf system .anchor))
+found-date system r system-inside p =
+    let c = constantsOf system in
+    let ok = consistent system in
+    let K = reckoned c ok in
+    let d = r + c .anchor in
+    let k = monthOfDay c d in
+    let n = yearOfMonth c k in
+    let early = year-from K (yearsElapsed c 1) d (omega (arith, p .from, ap (monthHead c) (span-first c ok (p .first)))) in
+    let late = year-before K (yearsElapsed c 3001) d (omega (arith, p .before, ap (monthHead c) (span-first c ok (p .past)))) in
+    let epoch = (room system) .common-small in
+    let year = n + c .common - c .elapsed in
+    let same : n ≡ yearsElapsed c year = omega arith in
+    O.DateOutcome.found
+    (record { system-inside = system-inside; year-inside = record { at-least = omega arith; at-most = omega arith } })
+    p
+    k
+    (subst (λ m. MonthNamed c m (monthNumber c k) (leapMark c k) k) same (named c ok n k (in-year c ok n k (in-its-year K k))))
+    refl
+    (K .day-from d, K .day-before d)
+    refl
+
+pub date-outcome : (system r : ℕ) → O.DateOutcome system r (dateOf system r)
+unfolding dateOf dateIn
+date-outcome system r =
+    by-inside 1 2 system
+    (λ e no-system. O.DateOutcome.system-refused no-system (simp e))
+    (λ e system-inside.
+    by-day-scope system r
+    (λ f no-day. O.DateOutcome.day-refused system-inside no-day (simp (e, f)))
+    (λ f day. subst (O.DateOutcome system r) (simp (e, f)) (found-date system r system-inside day)))
