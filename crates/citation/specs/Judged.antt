@@ -4,7 +4,7 @@ use mathlib.Core.Path.{_≡_}
 use mathlib.Core.List.{List}
 use lib.ListN.{length}
 use Rattle.calendar.specs.Inside.{Inside}
-use Rattle.citation.specs.Record.{kindOf, kindLength}
+use Rattle.citation.specs.Record.{kindOf}
 
 -- Numbers that fit the fields of a kind 1 record.
 pub record Fields (system year month leap day : ℕ) : Type 0 where
@@ -14,8 +14,9 @@ pub record Fields (system year month leap day : ℕ) : Type 0 where
   pub leap-byte : leap < 256
   pub day-byte : day < 256
 
--- A record of a kind, as long as the kind is.
+-- A record of a kind, at least nine bytes long, and ten where the kind is 1 or 2.
 pub record Whole (s : List ℕ) (kind : ℕ) : Type 0 where
   pub is-kind : kind ≡ kindOf s
   pub one-to-four : Inside 1 4 kind
-  pub as-long : length s ≡ kindLength kind
+  pub nine : 9 ≤ length s
+  pub ten : kind ≤ 2 → 10 ≤ length s

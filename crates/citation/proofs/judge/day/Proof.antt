@@ -1,56 +1,45 @@
+use mathlib.Core.Path.{sym, ap, _∙_}
+use native.Mathlib.Omega.{arith}
+use Rattle.reckoning.proofs.Refusals.{inside-of}
+use Rattle.reckoning.proofs.Fits.{month-fits}
+use Rattle.citation.specs.Store.{judgeInMonth, judgeDay}
+use Rattle.citation.proofs.Judgements.{month-refused, day-wrong, day-right}
 use borrow.Author.Needs.{needs}
 use Rattle.citation.proofs.judge.day.Statement.{statement}
 use Rattle.citation.proofs.judge.day.Tie as tie
-use Rattle.citation.proofs.judge.day.Reads as reads
-use Rattle.citation.proofs.judge.day.Lts as lts
-use Rattle.citation.proofs.judge.accept.Reads as accept-reads
-use Rattle.citation.proofs.judge.refuse.Reads as refuse-reads
-use Rattle.reckoning.proofs.month.Reads as month-reads
-use Rattle.reckoning.proofs.refusal.outside.Reads as outside-reads
 
--- src/judge.rt:83:9
 month-requires : tie.Need-month-requires
 month-requires c κs = search needs
 
--- src/judge.rt:85:9
 refuse-requires : tie.Need-refuse-requires
 refuse-requires c κs = search needs
 
--- src/judge.rt:85:9
 returns : tie.Need-returns
-returns c = ?
+returns c = c .refuse .ensures ∙ month-refused _ _ _ _ _ _ (c .before .before .before .month .ensures) (c .before .if1 .taken)
 
--- src/judge.rt:87:19
 cast-outside : tie.Need-cast-outside
 cast-outside c = search needs
 
--- src/judge.rt:87:8
 outside-requires : tie.Need-outside-requires
 outside-requires c κs = search needs
 
--- src/judge.rt:88:9
 refuse-requires-2 : tie.Need-refuse-requires-2
 refuse-requires-2 c κs = search needs
 
--- src/judge.rt:88:9
 returns-2 : tie.Need-returns-2
-returns-2 c = ?
+returns-2 c = c .refuse2 .ensures ∙ day-wrong _ _ _ _ _ _ (c .before .before .before .before .before .before .month .ensures) (c .before .before .before .before .if1 .left) (sym (c .before .before .outside .ensures) ∙ c .before .if2 .taken)
 
--- src/judge.rt:90:12
 add-accept : tie.Need-add-accept
-add-accept c = ?
+add-accept c = let small = month-fits _ _ _ _ _ (c .before .before .before .before .before .before .month .ensures) (c .before .before .before .before .if1 .left) in omega (arith, c .before .before .before .before .before .before .before .pre)
 
--- src/judge.rt:90:12
 sub-accept : tie.Need-sub-accept
-sub-accept c = ?
+sub-accept c = let least = inside-of 1 (c .before .before .before .before .before .before .month .result .length) (c .before .before .before .before .before .before .before .args .day) (sym (c .before .before .outside .ensures) ∙ c .before .if2 .left) in omega arith
 
--- src/judge.rt:90:5
 accept-requires : tie.Need-accept-requires
 accept-requires c κs = search needs
 
--- src/judge.rt:79:1
 returns-3 : tie.Need-returns-3
-returns-3 c = ?
+returns-3 c = c .accept .ensures ∙ day-right _ _ _ _ _ _ (c .before .before .before .before .before .before .before .month .ensures) (c .before .before .before .before .before .if1 .left) (sym (c .before .before .before .outside .ensures) ∙ c .before .before .if2 .left)
 
 pub day-spec : {M : Type 1} → statement M
 day-spec =

@@ -1,73 +1,56 @@
+use mathlib.Core.Path.{sym, ap, subst, _∙_}
+use native.Mathlib.Omega.{arith}
+use Rattle.reckoning.specs.Refusal.{outside}
+use Rattle.citation.specs.Record.{kindLength}
+use Rattle.citation.proofs.Judgements.{too-short, wrong-kind, wrong-field, wrong-size, right-size, whole}
 use borrow.Author.Needs.{needs}
 use Rattle.citation.proofs.judge.judge.Statement.{statement}
 use Rattle.citation.proofs.judge.judge.Tie as tie
-use Rattle.citation.proofs.judge.judge.Reads as reads
-use Rattle.citation.proofs.judge.judge.Lts as lts
-use Rattle.citation.proofs.judge.kind.Reads as kind-reads
-use Rattle.citation.proofs.judge.kind_length.Reads as kind-length-reads
-use Rattle.citation.proofs.judge.refuse.Reads as refuse-reads
-use Rattle.citation.proofs.reading.two.Reads as two-reads
-use Rattle.reckoning.proofs.refusal.outside.Reads as outside-reads
 
--- src/judge.rt:135:9
 refuse-requires : tie.Need-refuse-requires
 refuse-requires c κs = search needs
 
--- src/judge.rt:135:9
 returns : tie.Need-returns
-returns c = ?
+returns c = c .refuse .ensures ∙ too-short _ (c .before .if1 .taken)
 
--- src/judge.rt:137:9
 two-requires : tie.Need-two-requires
 two-requires c κs = search needs
 
--- src/judge.rt:138:8
 outside-requires : tie.Need-outside-requires
 outside-requires c κs = search needs
 
--- src/judge.rt:139:9
 refuse-requires-2 : tie.Need-refuse-requires-2
 refuse-requires-2 c κs = search needs
 
--- src/judge.rt:139:9
 returns-2 : tie.Need-returns-2
-returns-2 c = ?
+returns-2 c = c .refuse2 .ensures ∙ wrong-kind _ (c .before .before .before .before .if1 .left) (ap (outside 1 4) (sym (c .before .before .before .two .ensures .0)) ∙ sym (c .before .before .outside .ensures) ∙ c .before .if2 .taken)
 
--- src/judge.rt:141:9
 kind-length-requires : tie.Need-kind-length-requires
 kind-length-requires c κs = search needs
 
--- src/judge.rt:142:8
 two-requires-2 : tie.Need-two-requires-2
 two-requires-2 c κs = search needs
 
--- src/judge.rt:143:9
 refuse-requires-3 : tie.Need-refuse-requires-3
 refuse-requires-3 c κs = search needs
 
--- src/judge.rt:143:9
 returns-3 : tie.Need-returns-3
-returns-3 c = ?
+returns-3 c = let length-right = c .before .before .before .kind-length .ensures ∙ ap kindLength (c .before .before .before .before .before .before .two .ensures .0) in c .refuse3 .ensures ∙ wrong-field _ (c .before .before .before .before .before .before .before .if1 .left) (ap (outside 1 4) (sym (c .before .before .before .before .before .before .two .ensures .0)) ∙ sym (c .before .before .before .before .before .outside .ensures) ∙ c .before .before .before .before .if2 .left) (λ e. c .before .if3 .taken (c .before .before .two2 .ensures .0 ∙ e ∙ sym length-right))
 
--- src/judge.rt:145:19
 cast-if4 : tie.Need-cast-if4
 cast-if4 c = search needs
 
--- src/judge.rt:146:9
 refuse-requires-4 : tie.Need-refuse-requires-4
 refuse-requires-4 c κs = search needs
 
--- src/judge.rt:146:9
 returns-4 : tie.Need-returns-4
-returns-4 c = ?
+returns-4 c = let length-right = c .before .before .before .before .kind-length .ensures ∙ ap kindLength (c .before .before .before .before .before .before .before .two .ensures .0) in let field = sym (c .before .before .before .two2 .ensures .0) ∙ c .before .before .if3 .left ∙ length-right in c .refuse4 .ensures ∙ wrong-size _ (c .before .before .before .before .before .before .before .before .if1 .left) (ap (outside 1 4) (sym (c .before .before .before .before .before .before .before .two .ensures .0)) ∙ sym (c .before .before .before .before .before .before .outside .ensures) ∙ c .before .before .before .before .before .if2 .left) field (λ e. c .before .if4 .taken (e ∙ field ∙ sym length-right))
 
--- src/judge.rt:148:5
 kind-requires : tie.Need-kind-requires
-kind-requires c κs = ?
+kind-requires c κs = whole _ _ (c .before .before .before .before .before .before .two .ensures .0) (sym (c .before .before .before .before .before .outside .ensures) ∙ c .before .before .before .before .if2 .left) (c .if4 .left ∙ c .before .before .before .kind-length .ensures)
 
--- src/judge.rt:131:1
 returns-5 : tie.Need-returns-5
-returns-5 c = ?
+returns-5 c = let length-right = c .before .before .before .before .kind-length .ensures ∙ ap kindLength (c .before .before .before .before .before .before .before .two .ensures .0) in let field = sym (c .before .before .before .two2 .ensures .0) ∙ c .before .before .if3 .left ∙ length-right in c .kind .ensures ∙ right-size _ (c .before .before .before .before .before .before .before .before .if1 .left) (ap (outside 1 4) (sym (c .before .before .before .before .before .before .before .two .ensures .0)) ∙ sym (c .before .before .before .before .before .before .outside .ensures) ∙ c .before .before .before .before .before .if2 .left) field (c .before .if4 .left ∙ length-right ∙ sym field)
 
 pub judge-spec : {M : Type 1} → statement M
 judge-spec =

@@ -1,99 +1,73 @@
+use mathlib.Core.Path.{refl, sym, ap₂, _∙_}
+use native.Mathlib.Omega.{arith}
+use Rattle.citation.specs.Store.{judgeDay, judgeName, judgeOrdinal, judgeRegisterDay}
+use Rattle.citation.proofs.Judgements.{alike₅, kind-one, kind-two, kind-three, kind-four}
 use borrow.Author.Needs.{needs}
 use Rattle.citation.proofs.judge.kind.Statement.{statement}
 use Rattle.citation.proofs.judge.kind.Tie as tie
-use Rattle.citation.proofs.judge.kind.Reads as reads
-use Rattle.citation.proofs.judge.kind.Lts as lts
-use Rattle.citation.proofs.judge.day.Reads as day-reads
-use Rattle.citation.proofs.judge.name.Reads as name-reads
-use Rattle.citation.proofs.judge.ordinal.Reads as ordinal-reads
-use Rattle.citation.proofs.judge.register_day.Reads as register-day-reads
-use Rattle.citation.proofs.reading.byte.Reads as byte-reads
-use Rattle.citation.proofs.reading.four.Reads as four-reads
-use Rattle.citation.proofs.reading.two.Reads as two-reads
 
--- src/judge.rt:117:9
 byte-requires : tie.Need-byte-requires
-byte-requires c κs = ?
+byte-requires c κs = omega arith
 
--- src/judge.rt:119:28
 two-requires : tie.Need-two-requires
-two-requires c κs = ?
+two-requires c κs = omega arith
 
--- src/judge.rt:119:39
 byte-requires-2 : tie.Need-byte-requires-2
-byte-requires-2 c κs = ?
+byte-requires-2 c κs = omega arith
 
--- src/judge.rt:119:51
 byte-requires-3 : tie.Need-byte-requires-3
-byte-requires-3 c κs = ?
+byte-requires-3 c κs = omega arith
 
--- src/judge.rt:119:63
 byte-requires-4 : tie.Need-byte-requires-4
-byte-requires-4 c κs = ?
+byte-requires-4 c κs = omega (arith, c .before .before .before .before .before .before .pre .ten (omega (arith, c .before .before .before .if1 .taken)))
 
--- src/judge.rt:119:9
 day-requires : tie.Need-day-requires
 day-requires c κs = search needs
 
--- src/judge.rt:119:9
 returns : tie.Need-returns
-returns c = ?
+returns c = c .day .ensures ∙ alike₅ judgeDay (c .before .before .before .before .before .before .byte .ensures .0) (c .before .before .before .before .two .ensures .0) (c .before .before .before .byte2 .ensures .0) (c .before .before .byte3 .ensures .0) (c .before .byte4 .ensures .0) ∙ kind-one _ (sym (c .before .before .before .before .before .before .before .before .pre .is-kind) ∙ c .before .before .before .before .before .if1 .taken)
 
--- src/judge.rt:122:29
 two-requires-2 : tie.Need-two-requires-2
-two-requires-2 c κs = ?
+two-requires-2 c κs = omega arith
 
--- src/judge.rt:122:40
 byte-requires-5 : tie.Need-byte-requires-5
-byte-requires-5 c κs = ?
+byte-requires-5 c κs = omega arith
 
--- src/judge.rt:122:52
 byte-requires-6 : tie.Need-byte-requires-6
-byte-requires-6 c κs = ?
+byte-requires-6 c κs = omega arith
 
--- src/judge.rt:122:72
 shared-slice-read-t13 : tie.Need-shared-slice-read-t13
-shared-slice-read-t13 c = ?
+shared-slice-read-t13 c = omega (arith, c .before .before .before .before .before .before .before .before .pre .ten (omega (arith, c .before .before .before .before .if2 .taken)))
 
--- src/judge.rt:122:9
 name-requires : tie.Need-name-requires
 name-requires c κs = search needs
 
--- src/judge.rt:122:9
 returns-2 : tie.Need-returns-2
-returns-2 c = ?
+returns-2 c = c .name .ensures ∙ alike₅ judgeName (c .before .before .before .before .before .before .before .byte .ensures .0) (c .before .before .before .before .two2 .ensures .0) (c .before .before .before .byte5 .ensures .0) (c .before .before .byte6 .ensures .0) refl ∙ kind-two _ (sym (c .before .before .before .before .before .before .before .before .before .pre .is-kind) ∙ c .before .before .before .before .before .if2 .taken)
 
--- src/judge.rt:125:32
 two-requires-3 : tie.Need-two-requires-3
-two-requires-3 c κs = ?
+two-requires-3 c κs = omega arith
 
--- src/judge.rt:125:51
 two-requires-4 : tie.Need-two-requires-4
-two-requires-4 c κs = ?
+two-requires-4 c κs = omega arith
 
--- src/judge.rt:125:51
 cast-t17 : tie.Need-cast-t17
 cast-t17 c = search needs
 
--- src/judge.rt:125:9
 ordinal-requires : tie.Need-ordinal-requires
 ordinal-requires c κs = search needs
 
--- src/judge.rt:125:9
 returns-3 : tie.Need-returns-3
-returns-3 c = ?
+returns-3 c = c .ordinal .ensures ∙ (λ i. judgeOrdinal (c .before .before .before .before .before .before .byte .ensures .0 i) (c .before .before .two3 .ensures .0 i) (c .before .two4 .ensures .0 i)) ∙ kind-three _ (sym (c .before .before .before .before .before .before .before .before .pre .is-kind) ∙ c .before .before .before .if3 .taken)
 
--- src/judge.rt:127:38
 four-requires : tie.Need-four-requires
-four-requires c κs = ?
+four-requires c κs = omega arith
 
--- src/judge.rt:127:5
 register-day-requires : tie.Need-register-day-requires
 register-day-requires c κs = search needs
 
--- src/judge.rt:113:1
 returns-4 : tie.Need-returns-4
-returns-4 c = ?
+returns-4 c = c .register-day .ensures ∙ ap₂ judgeRegisterDay (c .before .before .before .before .before .byte .ensures .0) (c .before .four .ensures .0) ∙ kind-four _ (omega arith)
 
 pub kind-spec : {M : Type 1} → statement M
 kind-spec =

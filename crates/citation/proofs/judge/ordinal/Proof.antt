@@ -1,64 +1,51 @@
+use mathlib.Core.Path.{sym, ap, _∙_}
+use native.Mathlib.Omega.{arith}
+use Rattle.reckoning.proofs.Refusals.{inside-of}
+use Rattle.reckoning.proofs.Fits.{days-fit}
+use Rattle.citation.specs.Store.{judgeInYear, judgeOrdinal}
+use Rattle.citation.proofs.Judgements.{year-refused, ordinal-wrong, ordinal-right}
 use borrow.Author.Needs.{needs}
 use Rattle.citation.proofs.judge.ordinal.Statement.{statement}
 use Rattle.citation.proofs.judge.ordinal.Tie as tie
-use Rattle.citation.proofs.judge.ordinal.Reads as reads
-use Rattle.citation.proofs.judge.ordinal.Lts as lts
-use Rattle.citation.proofs.judge.refuse.Reads as refuse-reads
-use Rattle.citation.proofs.judge.register_day.Reads as register-day-reads
-use Rattle.reckoning.proofs.days.Reads as days-reads
-use Rattle.reckoning.proofs.refusal.outside.Reads as outside-reads
 
--- src/judge.rt:68:9
 days-requires : tie.Need-days-requires
 days-requires c κs = search needs
 
--- src/judge.rt:70:9
 refuse-requires : tie.Need-refuse-requires
 refuse-requires c κs = search needs
 
--- src/judge.rt:70:9
 returns : tie.Need-returns
-returns c = ?
+returns c = c .refuse .ensures ∙ year-refused _ _ _ _ (c .before .before .before .days .ensures) (c .before .if1 .taken)
 
--- src/judge.rt:72:19
 cast-outside : tie.Need-cast-outside
 cast-outside c = search needs
 
--- src/judge.rt:72:36
 cast-outside-2 : tie.Need-cast-outside-2
 cast-outside-2 c = search needs
 
--- src/judge.rt:72:8
 outside-requires : tie.Need-outside-requires
 outside-requires c κs = search needs
 
--- src/judge.rt:73:9
 refuse-requires-2 : tie.Need-refuse-requires-2
 refuse-requires-2 c κs = search needs
 
--- src/judge.rt:73:9
 returns-2 : tie.Need-returns-2
-returns-2 c = ?
+returns-2 c = c .refuse2 .ensures ∙ ordinal-wrong _ _ _ _ (c .before .before .before .before .before .before .before .days .ensures) (c .before .before .before .before .before .if1 .left) (sym (c .before .before .outside .ensures) ∙ c .before .if2 .taken)
 
--- src/judge.rt:75:49
 cast-t7 : tie.Need-cast-t7
 cast-t7 c = search needs
 
--- src/judge.rt:75:38
 add-t8 : tie.Need-add-t8
-add-t8 c = ?
+add-t8 c = let small = days-fit _ _ _ (c .before .before .before .before .before .before .before .before .days .ensures) (c .before .before .before .before .before .before .if1 .left) in let most = inside-of 1 (c .before .before .before .before .before .before .before .before .days .result .length) (c .before .before .before .before .before .before .before .before .before .args .ordinal .0) (sym (c .before .before .before .outside .ensures) ∙ c .before .before .if2 .left) in omega arith
 
--- src/judge.rt:75:38
 sub-t9 : tie.Need-sub-t9
-sub-t9 c = ?
+sub-t9 c = let least = inside-of 1 (c .before .before .before .before .before .before .before .before .days .result .length) (c .before .before .before .before .before .before .before .before .before .args .ordinal .0) (sym (c .before .before .before .outside .ensures) ∙ c .before .before .if2 .left) in omega arith
 
--- src/judge.rt:75:5
 register-day-requires : tie.Need-register-day-requires
 register-day-requires c κs = search needs
 
--- src/judge.rt:64:1
 returns-3 : tie.Need-returns-3
-returns-3 c = ?
+returns-3 c = c .register-day .ensures ∙ ordinal-right _ _ _ _ (c .before .before .before .before .before .before .before .before .before .days .ensures) (c .before .before .before .before .before .before .before .if1 .left) (sym (c .before .before .before .before .outside .ensures) ∙ c .before .before .before .if2 .left)
 
 pub ordinal-spec : {M : Type 1} → statement M
 ordinal-spec =

@@ -1,0 +1,176 @@
+-- The cases of each kind's judgement: refused by the reckoning, at a wrong place, or accepted.
+use Prim.Native.Nat.{ℕ, _+_, _-_, _≤_, _<_}
+use mathlib.Core.Path.{_≡_, ap, _∙_}
+use mathlib.Core.Bool.{Bool, true, false, _||_}
+use mathlib.Core.List.{List}
+use native.Mathlib.Omega.{arith}
+use lib.ListN.{length}
+use Rattle.reckoning.proofs.Refusals.{inside-of}
+use Rattle.calendar.proofs.Rising.{by-order}
+use Rattle.citation.specs.Record.{lengthField, kindOf, systemOf, kindLength, yearIn, monthIn, leapIn, dayIn, nameIn, ordinalIn, registerDayIn}
+use Rattle.citation.specs.Judged.{Whole}
+use lib.Dec.{ltb, leb}
+use borrow.Author.Tests.{eq-eqb, ne-eqb, lt-ltb, le-ltb, le-leb, lt-leb}
+use Rattle.reckoning.specs.Refusal.{outside}
+use Rattle.reckoning.specs.declared.data.Month.{Month}
+use Rattle.reckoning.specs.declared.data.Days.{Days}
+use Rattle.reckoning.specs.declared.data.Date.{Date}
+use Rattle.reckoning.specs.Requests.{daysOf, monthOf, dateOf}
+use Rattle.citation.specs.declared.judge.Judgement.{Judgement}
+use Rattle.citation.specs.Store.{refuse, accept, unlessRefused, unlessWrong, judgeDate, judgeRegisterDay, judgeInYear, judgeOrdinal, judgeInMonth, judgeDay, judgeNameInMonth, judgeName, daysToName, judgeKind, judgeOf}
+
+-- One law for every kind.
+module _ (refusal : ℕ) (wrong : Bool) (j : Judgement) where
+  refused-by : (refusal ≡ 0 → ⊥) → refuse refusal ≡ unlessRefused refusal j
+  refused-by h = simp (ne-eqb refusal 0 h)
+
+  accepted-by : refusal ≡ 0 → j ≡ unlessRefused refusal j
+  accepted-by h = simp (eq-eqb refusal 0 h)
+
+  wrong-place : refusal ≡ 0 → wrong ≡ true → refuse 7 ≡ unlessRefused refusal (unlessWrong wrong j)
+  wrong-place h e = simp (eq-eqb refusal 0 h, e)
+
+  right-place : refusal ≡ 0 → wrong ≡ false → j ≡ unlessRefused refusal (unlessWrong wrong j)
+  right-place h e = simp (eq-eqb refusal 0 h, e)
+
+-- Kind 4, with the day's date.
+module _ (system r : ℕ) (d : Date) (e : d ≡ dateOf system r) where
+  abbrev on-date : Judgement
+  on-date = accept r system (d .year) (d .month) (d .leap) (d .day)
+
+  dated : judgeDate d system r ≡ judgeRegisterDay system r
+  unfolding judgeRegisterDay
+  dated = ap (λ x. judgeDate x system r) e
+
+  pub date-refused : (d .refusal ≡ 0 → ⊥) → refuse (d .refusal) ≡ judgeRegisterDay system r
+  date-refused h = refused-by (d .refusal) false on-date h ∙ dated
+
+  pub date-accepted : d .refusal ≡ 0 → on-date ≡ judgeRegisterDay system r
+  date-accepted h = accepted-by (d .refusal) false on-date h ∙ dated
+
+-- Kind 3, with the year's days.
+module _ (system year ordinal : ℕ) (y : Days) (e : y ≡ daysOf system year) where
+  abbrev on-ordinal : Judgement
+  on-ordinal = judgeRegisterDay system (y .head .0 + ordinal - 1)
+
+  in-year : judgeInYear y system ordinal ≡ judgeOrdinal system year ordinal
+  unfolding judgeOrdinal
+  in-year = ap (λ x. judgeInYear x system ordinal) e
+
+  pub year-refused : (y .refusal ≡ 0 → ⊥) → refuse (y .refusal) ≡ judgeOrdinal system year ordinal
+  year-refused h = refused-by (y .refusal) false (unlessWrong (outside 1 (y .length) ordinal) on-ordinal) h ∙ in-year
+
+  pub ordinal-wrong : y .refusal ≡ 0 → outside 1 (y .length) ordinal ≡ true → refuse 7 ≡ judgeOrdinal system year ordinal
+  ordinal-wrong h w = wrong-place (y .refusal) (outside 1 (y .length) ordinal) on-ordinal h w ∙ in-year
+
+  pub ordinal-right : y .refusal ≡ 0 → outside 1 (y .length) ordinal ≡ false → on-ordinal ≡ judgeOrdinal system year ordinal
+  ordinal-right h w = right-place (y .refusal) (outside 1 (y .length) ordinal) on-ordinal h w ∙ in-year
+
+-- Kind 1, with its month.
+module _ (system year month leap day : ℕ) (m : Month) (e : m ≡ monthOf system year month leap) where
+  abbrev on-day : Judgement
+  on-day = accept (m .head .0 + day - 1) system year month leap day
+
+  in-month : judgeInMonth m system year month leap day ≡ judgeDay system year month leap day
+  unfolding judgeDay
+  in-month = ap (λ x. judgeInMonth x system year month leap day) e
+
+  pub month-refused : (m .refusal ≡ 0 → ⊥) → refuse (m .refusal) ≡ judgeDay system year month leap day
+  month-refused h = refused-by (m .refusal) false (unlessWrong (outside 1 (m .length) day) on-day) h ∙ in-month
+
+  pub day-wrong : m .refusal ≡ 0 → outside 1 (m .length) day ≡ true → refuse 7 ≡ judgeDay system year month leap day
+  day-wrong h w = wrong-place (m .refusal) (outside 1 (m .length) day) on-day h w ∙ in-month
+
+  pub day-right : m .refusal ≡ 0 → outside 1 (m .length) day ≡ false → on-day ≡ judgeDay system year month leap day
+  day-right h w = right-place (m .refusal) (outside 1 (m .length) day) on-day h w ∙ in-month
+
+-- Kind 2, with its month.
+module _ (system year month leap name : ℕ) (m : Month) (e : m ≡ monthOf system year month leap) where
+  abbrev days : ℕ
+  days = daysToName (m .head .0) name
+
+  abbrev name-wrong : Bool
+  name-wrong = ltb 59 name || leb (m .length) days
+
+  abbrev on-name : Judgement
+  on-name = accept (m .head .0 + days) system year month leap (days + 1)
+
+  name-in-month : judgeNameInMonth m system year month leap name ≡ judgeName system year month leap name
+  unfolding judgeName
+  name-in-month = ap (λ x. judgeNameInMonth x system year month leap name) e
+
+  pub name-month-refused : (m .refusal ≡ 0 → ⊥) → refuse (m .refusal) ≡ judgeName system year month leap name
+  name-month-refused h = refused-by (m .refusal) false (unlessWrong name-wrong on-name) h ∙ name-in-month
+
+  pub no-name : m .refusal ≡ 0 → 59 < name → refuse 7 ≡ judgeName system year month leap name
+  no-name z h = wrong-place (m .refusal) name-wrong on-name z (simp (lt-ltb 59 name h)) ∙ name-in-month
+
+  pub name-past : m .refusal ≡ 0 → name ≤ 59 → m .length ≤ days → refuse 7 ≡ judgeName system year month leap name
+  name-past z h l =
+      wrong-place (m .refusal) name-wrong on-name z (simp (le-ltb 59 name h, le-leb (m .length) days l)) ∙ name-in-month
+
+  pub name-right : m .refusal ≡ 0 → name ≤ 59 → days < m .length → on-name ≡ judgeName system year month leap name
+  name-right z h l =
+      right-place (m .refusal) name-wrong on-name z (simp (le-ltb 59 name h, lt-leb (m .length) days l)) ∙ name-in-month
+
+-- Which judgement a kind gets.
+module _ (s : List ℕ) where
+  pub kind-one : kindOf s ≡ 1 → judgeDay (systemOf s) (yearIn s) (monthIn s) (leapIn s) (dayIn s) ≡ judgeKind s
+  unfolding judgeKind
+  kind-one e = simp (eq-eqb (kindOf s) 1 e)
+
+  pub kind-two : kindOf s ≡ 2 → judgeName (systemOf s) (yearIn s) (monthIn s) (leapIn s) (nameIn s) ≡ judgeKind s
+  unfolding judgeKind
+  kind-two e = simp (ne-eqb (kindOf s) 1 (omega arith), eq-eqb (kindOf s) 2 e)
+
+  pub kind-three : kindOf s ≡ 3 → judgeOrdinal (systemOf s) (yearIn s) (ordinalIn s) ≡ judgeKind s
+  unfolding judgeKind
+  kind-three e = simp (ne-eqb (kindOf s) 1 (omega arith), ne-eqb (kindOf s) 2 (omega arith), eq-eqb (kindOf s) 3 e)
+
+  pub kind-four : kindOf s ≡ 4 → judgeRegisterDay (systemOf s) (registerDayIn s) ≡ judgeKind s
+  unfolding judgeKind
+  kind-four e = simp (ne-eqb (kindOf s) 1 (omega arith), ne-eqb (kindOf s) 2 (omega arith), ne-eqb (kindOf s) 3 (omega arith))
+
+  -- The first three refusals, in their order.
+  pub too-short : length s < 4 → refuse 1 ≡ judgeOf s
+  unfolding judgeOf
+  too-short h = simp (lt-ltb (length s) 4 h)
+
+  pub wrong-kind : 4 ≤ length s → outside 1 4 (kindOf s) ≡ true → refuse 2 ≡ judgeOf s
+  unfolding judgeOf
+  wrong-kind h e = simp (le-ltb (length s) 4 h, e)
+
+  pub wrong-field : 4 ≤ length s → outside 1 4 (kindOf s) ≡ false → (lengthField s ≡ kindLength (kindOf s) → ⊥) → refuse 3 ≡ judgeOf s
+  unfolding judgeOf
+  wrong-field h e f = simp (le-ltb (length s) 4 h, e, ne-eqb (lengthField s) (kindLength (kindOf s)) f)
+
+  pub wrong-size : 4 ≤ length s → outside 1 4 (kindOf s) ≡ false → lengthField s ≡ kindLength (kindOf s) → (length s ≡ lengthField s → ⊥) → refuse 3 ≡ judgeOf s
+  unfolding judgeOf
+  wrong-size h e f g =
+      simp (le-ltb (length s) 4 h, e, eq-eqb (lengthField s) (kindLength (kindOf s)) f, ne-eqb (length s) (lengthField s) g)
+
+  pub right-size : 4 ≤ length s → outside 1 4 (kindOf s) ≡ false → lengthField s ≡ kindLength (kindOf s) → length s ≡ lengthField s → judgeKind s ≡ judgeOf s
+  unfolding judgeOf
+  right-size h e f g =
+      simp (le-ltb (length s) 4 h, e, eq-eqb (lengthField s) (kindLength (kindOf s)) f, eq-eqb (length s) (lengthField s) g)
+
+  -- A record as long as its kind.
+  pub whole : (kind : ℕ) → kind ≡ kindOf s → outside 1 4 kind ≡ false → length s ≡ kindLength kind → Whole s kind
+  whole kind k e l =
+      record {
+        is-kind = k;
+        one-to-four = inside-of 1 4 kind e;
+        nine = by-order 2 kind (λ h. omega (arith, l ∙ nine-bytes h)) (λ h. omega (arith, l ∙ ten-bytes h));
+        ten = λ h. omega (arith, l ∙ ten-bytes h);
+      }
+    where
+      ten-bytes : kind ≤ 2 → kindLength kind ≡ 10
+      ten-bytes h = simp (le-leb kind 2 h)
+
+      nine-bytes : 2 < kind → kindLength kind ≡ 9
+      nine-bytes h = simp (lt-leb kind 2 h)
+
+-- Equal numbers are judged alike.
+pub alike₅ : (f : ℕ → ℕ → ℕ → ℕ → ℕ → Judgement) {a b c d e a′ b′ c′ d′ e′ : ℕ}
+    → a ≡ a′ → b ≡ b′ → c ≡ c′ → d ≡ d′ → e ≡ e′ → f a b c d e ≡ f a′ b′ c′ d′ e′
+alike₅ f p q r s t = λ i. f (p i) (q i) (r i) (s i) (t i)
