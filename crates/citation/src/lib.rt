@@ -2,3 +2,4 @@
 // ten-byte record.
 pub mod judge;
 mod reading;
+pub mod store;

@@ -1,0 +1,22 @@
+-- Ten bytes at the front of an output.
+use Prim.Native.Nat.{ℕ, zero, suc, _+_, _≤_}
+use mathlib.Core.Path.{_≡_, refl, sym, ap, _∙_}
+use mathlib.Core.List.{List, [], _∷_, _++_}
+use native.Mathlib.Omega.{arith}
+use lib.ListN.{length, getD, set, drop, drop-of-length-le}
+use lib.Seq.{drop-cons, sets, sets-eq}
+
+-- The elements of a list from place i on, n of them.
+unfoldable pub elements : List ℕ → ℕ → ℕ → List ℕ
+elements l i zero = []
+elements l i (suc n) = getD l i 0 ∷ elements l (suc i) n
+
+elements-drop : (l : List ℕ) (n i : ℕ) → i + n ≡ length l → drop i l ≡ elements l i n
+unfolding elements
+elements-drop l zero i e = drop-of-length-le l {i = i} (omega arith)
+elements-drop l (suc n) i e = drop-cons l i 0 (omega arith) ∙ ap (λ t. getD l i 0 ∷ t) (elements-drop l n (suc i) (omega arith))
+
+-- A list written element by element over the front of another.
+pub front-set : (l r : List ℕ) → length r ≡ 10 → 10 ≤ length l → sets l 0 (elements r 0 10) ≡ r ++ drop 10 l
+unfolding elements
+front-set l r e h = sets-eq (elements r 0 10) l 0 h ∙ ap (λ t. t ++ drop 10 l) (sym (elements-drop r 10 0 (sym e)))

@@ -1,0 +1,44 @@
+// The storing step.
+ghost use mathlib.Core.Path.{_≡_};
+ghost use Prim.Native.Nat.{_≤_};
+ghost use mathlib.Core.List.{_++_};
+ghost use lib.ListN.{length, drop};
+ghost use Rattle.citation.specs.Store.{answerOf, storedInto};
+use crate::judge::judge;
+
+// The ten bytes of a record at the front of an output.
+fn put(output: &mut [u8], stored: [u8; 10])
+    requires { ⌜ (10 ≤ length (now output)) × (length stored ≡ 10) ⌝ }
+    ensures { λ _. ⌜ now (output .exit) ≡ stored ++ drop 10 (now (output .entry)) ⌝ }
+{
+    output[0] = stored[0];
+    output[1] = stored[1];
+    output[2] = stored[2];
+    output[3] = stored[3];
+    output[4] = stored[4];
+    output[5] = stored[5];
+    output[6] = stored[6];
+    output[7] = stored[7];
+    output[8] = stored[8];
+    output[9] = stored[9];
+}
+
+// Stores one citation. The answer is the register day that it names, plus 2^32 times the refusal number; the output's
+// first ten bytes become its stored record, and the rest is left. Refused, the day is 0 and no byte changes.
+#[no_mangle]
+pub extern "C" fn chiselbrow_store(input: &[u8], output: &mut [u8]) -> u64
+    ensures { λ r. do ⌜ r ≡ answerOf (now (input .entry)) (← ⟦output.len()⟧ .entry) ⌝ }
+    ensures { λ _. ⌜ now (output .exit) ≡ storedInto (now (input .entry)) (now (output .entry)) ⌝ }
+{
+    let j = judge(input);
+    let refusal = j.refusal as u64;
+    if refusal != 0 {
+        return refusal * 4_294_967_296;
+    }
+    if output.len() < 10 {
+        return 8 * 4_294_967_296;
+    }
+    let stored = j.stored;
+    put(output, stored);
+    j.day as u64
+}
