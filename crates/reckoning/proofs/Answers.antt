@@ -5,9 +5,9 @@ use native.Mathlib.Omega.{arith}
 use borrow.Author.Tests.{eq-eqb, ne-eqb}
 use Rattle.calendar.specs.declared.data.Constants.{Constants}
 use Rattle.reckoning.specs.declared.asked.Asked.{Asked}
-use Rattle.calendar.specs.Systems.{constantsOf, yearsElapsed}
+use Rattle.calendar.specs.Systems.{guantian, jiyuan, constantsOf, yearsElapsed}
 use Rattle.reckoning.specs.Refusal.{yearRefusal}
-use Rattle.reckoning.proofs.Refusals.{in-scope}
+use Rattle.reckoning.proofs.Refusals.{in-scope, accepted}
 use Rattle.reckoning.specs.Asked.{askedOf, answerTo}
 use Rattle.reckoning.specs.Room.{Reach}
 use Rattle.reckoning.specs.Scope.{InScope}
@@ -32,6 +32,29 @@ module _ {A : Type 0} (answer : Constants → ℕ → A) (blank : ℕ → A) whe
       ≡ answerTo (askedOf (yearRefusal system year) system year) answer blank
   answered-year system year s =
       let a = askedOf (yearRefusal system year) system year in answered a a refl (in-scope system year s)
+
+  -- by the constants that the system's number picks
+  pub refused-here : (system year refusal : ℕ) → refusal ≡ yearRefusal system year → (refusal ≡ 0 → ⊥)
+      → blank refusal ≡ answerTo (askedOf (yearRefusal system year) system year) answer blank
+  refused-here system year refusal e h =
+      refused (askedOf refusal system year) _ (ap (λ r. askedOf r system year) e) h
+
+  pub answered-here : (system year : ℕ) (c : Constants) → constantsOf system ≡ c → yearRefusal system year ≡ 0
+      → answer c (yearsElapsed c year) ≡ answerTo (askedOf (yearRefusal system year) system year) answer blank
+  answered-here system year c e z =
+      sym (ap (λ k. answer k (yearsElapsed k year)) e)
+      ∙ answered (askedOf (yearRefusal system year) system year) _ refl z
+
+-- The constants that a number picks.
+pub picks-guantian : (system : ℕ) → system ≡ 1 → constantsOf system ≡ guantian
+picks-guantian system e = simp (eq-eqb system 1 e)
+
+pub picks-jiyuan : (system : ℕ) → (system ≡ 1 → ⊥) → constantsOf system ≡ jiyuan
+picks-jiyuan system h = simp (ne-eqb system 1 h)
+
+pub reach-here : (system year : ℕ) (c : Constants) → constantsOf system ≡ c → yearRefusal system year ≡ 0 → Reach c (yearsElapsed c year)
+reach-here system year c e z =
+    subst (λ k. Reach k (yearsElapsed k year)) e (reach system year ((accepted system year z) .year-inside))
 
 -- What is asked in scope lies within the register.
 pub within-reach : (a : Asked) (refusal system year : ℕ) → a ≡ askedOf refusal system year → InScope system year → Reach (a .c) (a .n)

@@ -7,7 +7,8 @@ ghost use Rattle.calendar.specs.Name.{nameOf};
 ghost use Rattle.reckoning.specs.Requests.{solsticeOf, qiOf, yearOf, sheetOf, daysOf, monthOf, dateOf};
 use calendar::data::DayName;
 use calendar::data::RegisterDay;
-use calendar::systems::constants_of;
+use calendar::systems::guantian;
+use calendar::systems::jiyuan;
 use data::Date;
 use data::Days;
 use data::Month;
@@ -88,34 +89,39 @@ pub fn sheet(system: u32, year: u32) -> Sheet
     names::of_year(asked.c, asked.n)
 }
 
+// The three requests below are what a citation asks. They call once for each system, so that the compiler knows the
+// constants and need not divide by variables.
+
 // The days of a year.
 pub fn days(system: u32, year: u32) -> Days
     ensures { λ r. ⌜ r ≡ daysOf system year ⌝ }
 {
-    let asked = asked::of_year(system, year);
-    if asked.refusal != 0 {
+    let refusal = refusal::of_year(system, year);
+    if refusal != 0 {
         return Days {
-            refusal: asked.refusal,
+            refusal: refusal,
             head: RegisterDay(0),
             length: 0,
         };
     }
-    year_days::of_year(asked.c, asked.n)
+    if system == 1 {
+        return year_days::of_common_year(guantian(), year);
+    }
+    year_days::of_common_year(jiyuan(), year)
 }
 
 // The month of a year with a number and a leap mark; refused 6 where the year has none.
 pub fn month(system: u32, year: u32, number: u32, leap: u32) -> Month
     ensures { λ r. ⌜ r ≡ monthOf system year number leap ⌝ }
 {
-    let asked = asked::of_year(system, year);
-    if asked.refusal != 0 {
-        return Month {
-            refusal: asked.refusal,
-            head: RegisterDay(0),
-            length: 0,
-        };
+    let refusal = refusal::of_year(system, year);
+    if refusal != 0 {
+        return months::none(refusal);
     }
-    months::cited(asked.c, asked.n, number, leap)
+    if system == 1 {
+        return months::of_common_year(guantian(), year, number, leap);
+    }
+    months::of_common_year(jiyuan(), year, number, leap)
 }
 
 // The date of a register day; refused 7 outside years 1 to 3000.
@@ -125,7 +131,10 @@ pub fn date(system: u32, day: RegisterDay) -> Date
     if refusal::outside(1, 2, system) {
         return dates::none(4);
     }
-    dates::of_day(constants_of(system), day)
+    if system == 1 {
+        return dates::of_day(guantian(), day);
+    }
+    dates::of_day(jiyuan(), day)
 }
 
 // The sixty-day name of a register day.

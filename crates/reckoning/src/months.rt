@@ -1,6 +1,7 @@
 // The months of one year: all of them, and one of them by number and leap mark.
 ghost use mathlib.Core.Path.{_≡_};
 ghost use Prim.Native.Nat.{_+_, _<_, _^_};
+ghost use Rattle.calendar.specs.Systems.{yearsElapsed};
 ghost use Rattle.calendar.specs.Month.{monthHead};
 ghost use Rattle.reckoning.specs.Requests.{monthsFrom, yearIn, monthAt, noMonth, monthIn};
 ghost use Rattle.reckoning.specs.Room.{Room, Registered, Listed, Reach};
@@ -11,6 +12,7 @@ use crate::closed_forms::month_number;
 use crate::closed_forms::month_of_qi;
 use crate::closed_forms::register_day;
 use crate::closed_forms::register_head;
+use crate::closed_forms::years_elapsed;
 use crate::data::Month;
 use crate::data::Year;
 use crate::refusal::outside;
@@ -69,7 +71,7 @@ fn at(c: Constants, k: u64) -> Month
     }
 }
 
-fn none(refusal: u8) -> Month
+pub(crate) fn none(refusal: u8) -> Month
     ensures { λ r. ⌜ r ≡ noMonth refusal ⌝ }
 {
     Month {
@@ -80,7 +82,7 @@ fn none(refusal: u8) -> Month
 }
 
 // The month of year n with a number and a leap mark.
-pub(crate) fn cited(c: Constants, n: u64, number: u32, leap: u32) -> Month
+fn cited(c: Constants, n: u64, number: u32, leap: u32) -> Month
     requires { ⌜ Reach c n ⌝ }
     ensures { λ r. ⌜ r ≡ monthIn c n number leap ⌝ }
 {
@@ -99,4 +101,11 @@ pub(crate) fn cited(c: Constants, n: u64, number: u32, leap: u32) -> Month
         return at(c, k + 1);
     }
     none(6)
+}
+
+pub(crate) fn of_common_year(c: Constants, year: u32, number: u32, leap: u32) -> Month
+    requires { ⌜ Reach c (yearsElapsed c year) ⌝ }
+    ensures { λ r. ⌜ r ≡ monthIn c (yearsElapsed c year) number leap ⌝ }
+{
+    cited(c, years_elapsed(c, year), number, leap)
 }

@@ -1,8 +1,10 @@
 // The days of one year.
 ghost use mathlib.Core.Path.{_≡_};
+ghost use Rattle.calendar.specs.Systems.{yearsElapsed};
 ghost use Rattle.reckoning.specs.Requests.{daysIn};
 ghost use Rattle.reckoning.specs.Room.{Reach};
 use crate::closed_forms::year_head;
+use crate::closed_forms::years_elapsed;
 use crate::data::Days;
 use calendar::data::Constants;
 
@@ -18,4 +20,11 @@ pub(crate) fn of_year(c: Constants, n: u64) -> Days
         head: head,
         length: (next.0 - head.0) as u16,
     }
+}
+
+pub(crate) fn of_common_year(c: Constants, year: u32) -> Days
+    requires { ⌜ Reach c (yearsElapsed c year) ⌝ }
+    ensures { λ r. ⌜ r ≡ daysIn c (yearsElapsed c year) ⌝ }
+{
+    of_year(c, years_elapsed(c, year))
 }

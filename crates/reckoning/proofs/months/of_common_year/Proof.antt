@@ -1,0 +1,18 @@
+use mathlib.Core.Path.{subst, sym, ap, _∙_}
+use Rattle.reckoning.specs.Room.{Reach}
+use Rattle.reckoning.specs.Requests.{monthIn}
+use borrow.Author.Needs.{needs}
+use Rattle.reckoning.proofs.months.of_common_year.Statement.{statement}
+use Rattle.reckoning.proofs.months.of_common_year.Tie as tie
+
+years-elapsed-requires : tie.Need-years-elapsed-requires
+years-elapsed-requires c κs = search needs
+
+cited-requires : tie.Need-cited-requires
+cited-requires c κs = subst (Reach (c .before .args .c)) (sym (c .years-elapsed .ensures)) (c .before .pre)
+
+returns : tie.Need-returns
+returns c = c .cited .ensures ∙ ap (λ n. monthIn (c .before .before .args .c) n (c .before .before .args .number) (c .before .before .args .leap)) (c .before .years-elapsed .ensures)
+
+pub of-common-year-spec : {M : Type 1} → statement M
+of-common-year-spec = tie.close (tie.spec years-elapsed-requires cited-requires returns)
