@@ -121,6 +121,10 @@ module _ (K : Calendar) where
   year-unique n k w =
       place-unique (first K) first-rises n (K .qiOfMonth k / 12) k (w .0) (w .1) (in-its-year k .0) (in-its-year k .1)
 
+  -- later years begin later
+  pub years-rise : {n m : ℕ} → n ≤ m → K .head (first K n) ≤ K .head (first K m)
+  years-rise h = head-monotone (monotone (first K) first-rises h)
+
   -- the year of a day
   pub year-from : (n d : ℕ) → K .head (first K n) ≤ d → n ≤ K .qiOfMonth (K .monthOfDay d) / 12
   year-from n d h =

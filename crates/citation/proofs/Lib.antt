@@ -5,3 +5,11 @@ pub mod Judgements
 pub mod TenBytes
 -- The three ways in which a storing ends.
 pub mod Storing
+-- Rows of refusals.
+pub mod Rows
+-- A citation names one day at most.
+pub mod OneDay
+-- How a citation is judged.
+pub mod Judged
+-- Every citation is judged by the table.
+pub mod Refusals

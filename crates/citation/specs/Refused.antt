@@ -2,7 +2,7 @@
 use Prim.Native.Nat.{ℕ, _+_, _≤_, _<_}
 use mathlib.Core.Path.{_≡_}
 use mathlib.Core.Logic.{_⊎_}
-use mathlib.Core.List.{List, [], _∷_}
+use mathlib.Core.List.{List, [], _∷_, _++_}
 use lib.ListN.{length}
 use Rattle.calendar.specs.Inside.{Inside}
 use Rattle.calendar.specs.Name.{nameOf}
@@ -64,22 +64,17 @@ FirstOf [] number = number ≡ 0
 FirstOf ((refusal when applies) ∷ rows) number =
     ((number ≡ refusal) × applies) ⊎ ((applies → ⊥) × FirstOf rows number)
 
--- The rows that judge a citation by its bytes,
-abbrev pub citationRows : List ℕ → List Row → List Row
-citationRows s rows =
-    1 when TooShort s
-    ∷ 2 when WrongKind s
-    ∷ 3 when WrongLength s
-    ∷ 4 when WrongSystem s
-    ∷ 5 when WrongYear s
-    ∷ 6 when WrongMonth s
-    ∷ 7 when NotPlaced s
-    ∷ rows
+-- The rows that judge a citation by its bytes: whether it is a record at all, then what it says,
+abbrev pub contentRows : List ℕ → List Row
+contentRows s = 4 when WrongSystem s ∷ 5 when WrongYear s ∷ 6 when WrongMonth s ∷ 7 when NotPlaced s ∷ []
+
+abbrev pub citationRows : List ℕ → List Row
+citationRows s = 1 when TooShort s ∷ 2 when WrongKind s ∷ 3 when WrongLength s ∷ contentRows s
 
 -- and, for a storing, its output too.
 abbrev pub storingRows : List ℕ → ℕ → List Row
-storingRows s room = citationRows s (8 when NoRoom room ∷ [])
+storingRows s room = citationRows s ++ (8 when NoRoom room ∷ [])
 
 -- A citation is accepted when none of the numbered refusals applies to its bytes.
 abbrev pub Accepted : List ℕ → Type 0
-Accepted s = FirstOf (citationRows s []) 0
+Accepted s = FirstOf (citationRows s) 0

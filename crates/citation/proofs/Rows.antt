@@ -1,0 +1,35 @@
+-- Rows of refusals: the first that applies is one number only, and rows may follow rows.
+use Prim.Native.Nat.{ℕ, _<_}
+use mathlib.Core.Path.{_≡_, sym, _∙_}
+use mathlib.Core.Logic.{_⊎_, inl, inr, ⊎-elim}
+use mathlib.Core.List.{List, [], _∷_, _++_}
+use native.Mathlib.Omega.{arith}
+use Rattle.citation.specs.Refused.{Row, _when_, FirstOf}
+
+pub first-unique : (rows : List Row) (m n : ℕ) → FirstOf rows m → FirstOf rows n → m ≡ n
+first-unique [] m n p q = p ∙ sym q
+first-unique ((refusal when applies) ∷ rows) m n p q =
+    ⊎-elim
+    (λ a. ⊎-elim (λ b. a .0 ∙ sym (b .0)) (λ b. absurd (b .0 (a .1))) q)
+    (λ a. ⊎-elim (λ b. absurd (a .0 (b .1))) (λ b. first-unique rows m n (a .1) (b .1)) q)
+    p
+
+-- A refusal stands, whatever rows follow.
+pub first-before : (rows more : List Row) (n : ℕ) → 0 < n → FirstOf rows n → FirstOf (rows ++ more) n
+first-before [] more n some p = absurd (omega arith)
+first-before ((refusal when applies) ∷ rows) more n some p =
+    ⊎-elim (λ a. inl a) (λ a. inr (a .0, first-before rows more n some (a .1))) p
+
+-- Rows all numbered from 1 on.
+abbrev pub Numbered : List Row → Type 0
+Numbered [] = Unit {0}
+Numbered ((refusal when applies) ∷ rows) = (0 < refusal) × Numbered rows
+
+-- Where none of them applies, the rows that follow decide.
+pub first-after : (rows more : List Row) (n : ℕ) → Numbered rows → FirstOf rows 0 → FirstOf more n → FirstOf (rows ++ more) n
+first-after [] more n k p q = q
+first-after ((refusal when applies) ∷ rows) more n k p q =
+    ⊎-elim
+    (λ a. absurd (omega (arith, a .0, k .0)))
+    (λ a. inr (a .0, first-after rows more n (k .1) (a .1) q))
+    p
