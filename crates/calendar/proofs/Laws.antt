@@ -14,7 +14,7 @@ use Rattle.calendar.specs.Consistent.{Consistent}
 use Rattle.calendar.specs.Calendar.{Calendar}
 use Rattle.calendar.specs.ClosedForms.{monthOfQi, qiOfMonth, monthOfDay, firstMonth, yearOfMonth, monthNumber, leapMark, qiOfNumber, monthCited, leapFollows}
 use Rattle.calendar.proofs.Rising.{by-order}
-use Rattle.calendar.proofs.Months.{head-monotone, month-from, month-before, month-unique, qi-unique, qi-of-held, count-least, count-most, in-its-year, year-unique, month-again, twelve-hold, thirteen-one-lacks}
+use Rattle.calendar.proofs.Months.{behind-most, head-monotone, month-from, month-before, month-unique, qi-unique, qi-of-held, count-least, count-most, in-its-year, year-unique, month-again, twelve-hold, thirteen-one-lacks}
 use Rattle.calendar.proofs.Reckoned.{reckoned}
 use Rattle.calendar.proofs.Spans.{span, span-first, span-next, in-year, within}
 use Rattle.calendar.proofs.Numbers.{month-of-held, holds-of-month, held-of-holds, holds-of-held, number-unique, bears-its-number, mark-unique, marked}
@@ -141,6 +141,15 @@ module _ (c : Constants) (ok : Consistent c) where
   -- Each month of a year has its number and its leap mark,
   pub named : (n k : ℕ) → InYear c n k → MonthNamed c n (monthNumber c k) (leapMark c k) k
   named n k i = record { in-year = i; bears = bears-its-number c ok k; marked = marked c ok k }
+
+  -- a number 1 to 12 and a mark 0 or 1,
+  pub number-inside : (n number mark k : ℕ) → MonthNamed c n number mark k → Inside 1 12 number
+  number-inside n number mark k p =
+      let e = number-unique c ok (p .bears) in record { at-least = omega arith; at-most = omega arith }
+
+  pub mark-inside : (n number mark k : ℕ) → MonthNamed c n number mark k → Inside 0 1 mark
+  mark-inside n number mark k p =
+      let e = mark-unique c ok (p .marked) in record { at-least = omega arith; at-most = omega (arith, behind-most K k) }
 
   -- which determine it within its year.
   pub named-unique : (n number mark k l : ℕ) → MonthNamed c n number mark k → MonthNamed c n number mark l → k ≡ l

@@ -14,8 +14,7 @@ use Rattle.calendar.specs.Year.{Span, yearHead, nextHead, yearLength, dayOfOrdi
 use Rattle.calendar.proofs.EachSystem.{consistent}
 use Rattle.calendar.proofs.Rising.{by-order}
 use Rattle.calendar.proofs.Reckoned.{reckoned}
-use Rattle.calendar.proofs.Months.{years-rise}
-use Rattle.calendar.proofs.Spans.{span, span-first, span-next}
+use Rattle.calendar.proofs.Spans.{span-first, span-next}
 use Rattle.reckoning.specs.declared.data.Month.{Month}
 use Rattle.reckoning.specs.declared.data.Days.{Days}
 use Rattle.reckoning.specs.declared.data.Date.{Date}
@@ -24,10 +23,10 @@ use Rattle.reckoning.specs.Refusal.{outside}
 use Rattle.reckoning.specs.Requests.{daysOf, monthOf, dateOf}
 use Rattle.reckoning.specs.Outcomes.{MonthOutcome, DaysOutcome, DateOutcome, DayInScope}
 use Rattle.reckoning.proofs.Refusals.{by-inside}
-use Rattle.reckoning.proofs.Outcomes.{days-outcome, month-outcome, date-outcome}
+use Rattle.reckoning.proofs.Outcomes.{days-outcome, month-outcome, date-outcome, year-day-in-scope}
 use Rattle.citation.specs.declared.judge.Judgement.{Judgement}
 use Rattle.citation.specs.Record.{kindOf, systemOf, yearIn, monthIn, leapIn, dayIn, nameIn, ordinalIn, registerDayIn, recordOf}
-use Rattle.citation.specs.Named.{constantsIn, elapsedIn, MonthIn, Names}
+use Rattle.citation.specs.Named.{constantsIn, elapsedIn, MonthIn, Names, OnDate}
 use Rattle.citation.specs.Refused.{Row, FirstOf, contentRows, WrongMonth, Placed, NotPlaced}
 use Rattle.citation.specs.Store.{refuse, accept, daysToName, judgeRegisterDay, judgeOrdinal, judgeDay, judgeName}
 use Rattle.citation.proofs.OneDay.{month-once}
@@ -40,11 +39,7 @@ pub record Kept (s : List ℕ) (j : Judgement) : Type 0 where
   pub month : ℕ
   pub leap : ℕ
   pub day : ℕ
-  pub k : ℕ
-  pub in-scope : InScope (systemOf s) year
-  pub named : MonthNamed (constantsIn s) (yearsElapsed (constantsIn s) year) month leap k
-  pub placed : Inside 1 (monthLength (constantsIn s) k) day
-  pub day-is : j .day + constantsIn s .anchor ≡ dayOfMonth (constantsIn s) k day
+  pub dated : OnDate (systemOf s) (j .day) year month leap day
   pub stored : j .stored ≡ recordOf (systemOf s) year month leap day
   pub names : Names s (j .day)
 
@@ -59,9 +54,9 @@ module _ (s : List ℕ) where
 
   -- The month of kinds 1 and 2: refused 4, 5 or 6, or found.
   month-judged : (j : Judgement) (m : Month) → kindOf s ≤ 2
-    → MonthOutcome (systemOf s) (yearIn s) (monthIn s) (leapIn s) m
-    → ((m .refusal ≡ 0 → ⊥) → refuse (m .refusal) ≡ j)
-    → (InScope (systemOf s) (yearIn s)
+      → MonthOutcome (systemOf s) (yearIn s) (monthIn s) (leapIn s) m
+      → ((m .refusal ≡ 0 → ⊥) → refuse (m .refusal) ≡ j)
+      → (InScope (systemOf s) (yearIn s)
       → (WrongMonth s → ⊥)
       → (k : ℕ)
       → MonthIn s k
@@ -69,7 +64,7 @@ module _ (s : List ℕ) where
       → m .head .0 + c .anchor ≡ monthHead c k
       → m .length ≡ monthLength c k
       → Judged (contentRows s) s j)
-    → Judged (contentRows s) s j
+      → Judged (contentRows s) s j
   month-judged j m kind (MonthOutcome.system-refused w e) r f =
       Judged.refused 4 (omega arith) (sym (r (λ z. omega (arith, ap (λ x. x .refusal) e))) ∙ ap (λ x. refuse (x .refusal)) e) (inl (refl, w))
   month-judged j m kind (MonthOutcome.year-refused i w e) r f =
@@ -81,19 +76,19 @@ module _ (s : List ℕ) where
   month-judged j m kind (MonthOutcome.found i a b k n z h l) r f =
       f i
       (λ w.
-        ⊎-elim
-        (λ v. v a)
-        (λ v. ⊎-elim (λ u. u b) (λ u. u .1 (record { month = k; is-leap = subst (λ x. MonthNamed c (elapsedIn s) (monthIn s) x k) (u .0) n })) v)
-        (w .1))
+      ⊎-elim
+      (λ v. v a)
+      (λ v. ⊎-elim (λ u. u b) (λ u. u .1 (record { month = k; is-leap = subst (λ x. MonthNamed c (elapsedIn s) (monthIn s) x k) (u .0) n })) v)
+      (w .1))
       k n z h l
 
   -- What is left to judge where system, year and month are right: the place.
   place-rows : {number : ℕ} → InScope (systemOf s) (yearIn s) → (WrongMonth s → ⊥) → ((number ≡ 7) × NotPlaced s) ⊎ ((NotPlaced s → ⊥) × (number ≡ 0))
-    → FirstOf (contentRows s) number
+      → FirstOf (contentRows s) number
   place-rows i w p = inr (λ v. v (i .system-inside), inr (λ v. v .1 (i .year-inside), inr (w, p)))
 
   -- Kind 1.
-  day-not-placed : kindOf s ≡ 1 → (k : ℕ) → MonthIn s k → (Inside 1 (monthLength c k) (dayIn s) → ⊥) → NotPlaced s
+  pub day-not-placed : kindOf s ≡ 1 → (k : ℕ) → MonthIn s k → (Inside 1 (monthLength c k) (dayIn s) → ⊥) → NotPlaced s
   day-not-placed e k n out (Placed.day-in-month f l o i) =
       out (subst (λ x. Inside 1 (monthLength c x) (dayIn s)) (month-once s l k o n) i)
   day-not-placed e k n out (Placed.name-in-month f l r o i g) = omega arith
@@ -107,29 +102,25 @@ module _ (s : List ℕ) where
       (month-outcome (systemOf s) (yearIn s) (monthIn s) (leapIn s))
       (month-refused _ _ _ _ _ m refl)
       (λ i w k n z h l.
-        by-inside 1 (m .length) (dayIn s)
-        (λ e out.
-          Judged.refused 7 (omega arith) (sym (day-wrong _ _ _ _ _ m refl z e))
-          (place-rows i w (inl (refl, day-not-placed kind k n (λ p. out (subst (λ x. Inside 1 x (dayIn s)) (sym l) p))))))
-        (λ e into.
-          let inside = subst (λ x. Inside 1 x (dayIn s)) l into in
-          let j = accept (m .head .0 + dayIn s - 1) (systemOf s) (yearIn s) (monthIn s) (leapIn s) (dayIn s) in
-          let day-is : j .day + c .anchor ≡ dayOfMonth c k (dayIn s) = omega (arith, into) in
-          subst (Judged (contentRows s) s) (day-right _ _ _ _ _ m refl z e)
-          (Judged.accepted refl (place-rows i w (inr (λ v. v (Placed.day-in-month kind k n inside), refl)))
-          (record {
-            year = yearIn s;
-            month = monthIn s;
-            leap = leapIn s;
-            day = dayIn s;
-            k = k;
-            in-scope = i;
-            named = n;
-            placed = inside;
-            day-is = day-is;
-            stored = refl;
-            names = Names.by-day kind k n day-is;
-          }))))
+      by-inside 1 (m .length) (dayIn s)
+      (λ e out.
+      Judged.refused 7 (omega arith) (sym (day-wrong _ _ _ _ _ m refl z e))
+      (place-rows i w (inl (refl, day-not-placed kind k n (λ p. out (subst (λ x. Inside 1 x (dayIn s)) (sym l) p))))))
+      (λ e into.
+      let inside = subst (λ x. Inside 1 x (dayIn s)) l into in
+      let j = accept (m .head .0 + dayIn s - 1) (systemOf s) (yearIn s) (monthIn s) (leapIn s) (dayIn s) in
+      let day-is : j .day + c .anchor ≡ dayOfMonth c k (dayIn s) = omega (arith, into) in
+      subst (Judged (contentRows s) s) (day-right _ _ _ _ _ m refl z e)
+      (Judged.accepted refl (place-rows i w (inr (λ v. v (Placed.day-in-month kind k n inside), refl)))
+      (record {
+        year = yearIn s;
+        month = monthIn s;
+        leap = leapIn s;
+        day = dayIn s;
+        dated = record { k = k; in-scope = i; named = n; placed = inside; day-is = day-is };
+        stored = refl;
+        names = Names.by-day kind k n day-is;
+      }))))
 
   -- Kind 2.
   name-not-placed : kindOf s ≡ 2 → (k : ℕ) → MonthIn s k → ((r : ℕ) → InMonth c k (r + c .anchor) → nameOf r ≡ nameIn s → ⊥) → NotPlaced s
@@ -148,55 +139,47 @@ module _ (s : List ℕ) where
       (month-outcome (systemOf s) (yearIn s) (monthIn s) (leapIn s))
       (name-month-refused _ _ _ _ _ m refl)
       (λ i w k n z h l.
-        let short = (reckoned c (consistent (systemOf s))) .month-most k in
-        let least = (reckoned c (consistent (systemOf s))) .month-least k in
-        by-order 59 (nameIn s)
-        (λ far.
-          Judged.refused 7 (omega arith) (sym (no-name _ _ _ _ _ m refl z far))
-          (place-rows i w (inl (refl, name-not-placed kind k n (λ r p e. omega arith)))))
-        (λ near.
-          by-order days (m .length)
-          (λ b.
-            let j = accept (head + days) (systemOf s) (yearIn s) (monthIn s) (leapIn s) (days + 1) in
-            let day-is : j .day + c .anchor ≡ dayOfMonth c k (days + 1) = omega arith in
-            let in-month : InMonth c k (j .day + c .anchor) = (omega arith, omega arith) in
-            let is-named : nameOf (j .day) ≡ nameIn s = omega arith in
-            subst (Judged (contentRows s) s) (name-right _ _ _ _ _ m refl z near b)
-            (Judged.accepted refl (place-rows i w (inr (λ v. v (Placed.name-in-month kind k (j .day) n in-month is-named), refl)))
-            (record {
-              year = yearIn s;
-              month = monthIn s;
-              leap = leapIn s;
-              day = days + 1;
-              k = k;
-              in-scope = i;
-              named = n;
-              placed = record { at-least = omega arith; at-most = omega arith };
-              day-is = day-is;
-              stored = refl;
-              names = Names.by-name kind k n in-month is-named;
-            })))
-          (λ b.
-            Judged.refused 7 (omega arith) (sym (name-past _ _ _ _ _ m refl z near b))
-            (place-rows i w (inl (refl, name-not-placed kind k n (λ r p e. omega (arith, p, e))))))))
+      let short = (reckoned c (consistent (systemOf s))) .month-most k in
+      let least = (reckoned c (consistent (systemOf s))) .month-least k in
+      by-order 59 (nameIn s)
+      (λ far.
+      Judged.refused 7 (omega arith) (sym (no-name _ _ _ _ _ m refl z far))
+      (place-rows i w (inl (refl, name-not-placed kind k n (λ r p e. omega arith)))))
+      (λ near.
+      by-order days (m .length)
+      (λ b.
+      let j = accept (head + days) (systemOf s) (yearIn s) (monthIn s) (leapIn s) (days + 1) in
+      let day-is : j .day + c .anchor ≡ dayOfMonth c k (days + 1) = omega arith in
+      let in-month : InMonth c k (j .day + c .anchor) = (omega arith, omega arith) in
+      let is-named : nameOf (j .day) ≡ nameIn s = omega arith in
+      subst (Judged (contentRows s) s) (name-right _ _ _ _ _ m refl z near b)
+      (Judged.accepted refl (place-rows i w (inr (λ v. v (Placed.name-in-month kind k (j .day) n in-month is-named), refl)))
+      (record {
+        year = yearIn s;
+        month = monthIn s;
+        leap = leapIn s;
+        day = days + 1;
+        dated = record { k = k; in-scope = i; named = n; placed = record { at-least = omega arith; at-most = omega arith }; day-is = day-is };
+        stored = refl;
+        names = Names.by-name kind k n in-month is-named;
+      })))
+      (λ b.
+      Judged.refused 7 (omega arith) (sym (name-past _ _ _ _ _ m refl z near b))
+      (place-rows i w (inl (refl, name-not-placed kind k n (λ r p e. omega (arith, p, e))))))))
 
   -- A day that is named and has a date is kept.
   kept-by-date : (r : ℕ) (d : Date) → Names s r → (i : InScope (systemOf s) (d .year)) → (k : ℕ)
-    → MonthNamed c (yearsElapsed c (d .year)) (d .month) (d .leap) k
-    → InMonth c k (r + c .anchor)
-    → d .day ≡ r + c .anchor - monthHead c k + 1
-    → Kept s (accept r (systemOf s) (d .year) (d .month) (d .leap) (d .day))
+      → MonthNamed c (yearsElapsed c (d .year)) (d .month) (d .leap) k
+      → InMonth c k (r + c .anchor)
+      → d .day ≡ r + c .anchor - monthHead c k + 1
+      → Kept s (accept r (systemOf s) (d .year) (d .month) (d .leap) (d .day))
   kept-by-date r d names i k n p e =
       record {
         year = d .year;
         month = d .month;
         leap = d .leap;
         day = d .day;
-        k = k;
-        in-scope = i;
-        named = n;
-        placed = record { at-least = omega arith; at-most = omega arith };
-        day-is = omega arith;
+        dated = record { k = k; in-scope = i; named = n; placed = record { at-least = omega arith; at-most = omega arith }; day-is = omega arith };
         stored = refl;
         names = names;
       }
@@ -209,7 +192,7 @@ module _ (s : List ℕ) where
   day-out-of-scope e out (Placed.day-in-scope f d) = out d
 
   register-day-judged-by : kindOf s ≡ 4 → (d : Date) → d ≡ dateOf (systemOf s) (registerDayIn s) → DateOutcome (systemOf s) (registerDayIn s) d
-    → Judged (contentRows s) s (judgeRegisterDay (systemOf s) (registerDayIn s))
+      → Judged (contentRows s) s (judgeRegisterDay (systemOf s) (registerDayIn s))
   register-day-judged-by kind d is (DateOutcome.system-refused w e) =
       Judged.refused 4 (omega arith) (sym (date-refused _ _ d is (λ z. omega (arith, ap (λ x. x .refusal) e))) ∙ ap (λ x. refuse (x .refusal)) e)
       (inl (refl, w))
@@ -236,32 +219,16 @@ module _ (s : List ℕ) where
       out (record { at-least = i .at-least; at-most = omega (arith, i .at-most) })
   ordinal-not-placed e y out (Placed.day-in-scope f d) = omega arith
 
-  -- the days of a year in scope are in scope
-  day-of-year-in-scope : (r : ℕ) → InScope (systemOf s) (yearIn s) → (y : Span c (elapsedIn s)) → yearHead y ≤ r + c .anchor → r + c .anchor < nextHead y
-    → DayInScope (systemOf s) r
-  day-of-year-in-scope r i y a b =
-      let ok = consistent (systemOf s) in
-      let K = reckoned c ok in
-      let epoch = ok .epoch-before in
-      let from = years-rise K {n = yearsElapsed c 1} {m = elapsedIn s} (omega (arith, i .year-inside)) in
-      let before = years-rise K {n = elapsedIn s + 1} {m = yearsElapsed c 3001} (omega (arith, i .year-inside)) in
-      record {
-        first = span c ok (yearsElapsed c 1);
-        past = span c ok (yearsElapsed c 3001);
-        from = omega (arith, ap (monthHead c) (span-first c ok y));
-        before = omega (arith, ap (monthHead c) (span-next c ok y));
-      }
-
   on-ordinal-judged : (r : ℕ) → kindOf s ≡ 3 → Names s r → DayInScope (systemOf s) r → (d : Date) → d ≡ dateOf (systemOf s) r → DateOutcome (systemOf s) r d
-    → FirstOf (contentRows s) 0
-    → Judged (contentRows s) s (judgeRegisterDay (systemOf s) r)
+      → FirstOf (contentRows s) 0
+      → Judged (contentRows s) s (judgeRegisterDay (systemOf s) r)
   on-ordinal-judged r kind names scope d is (DateOutcome.system-refused w e) rows = absurd (⊎-elim (λ p. omega (arith, p .0)) (λ p. p .0 w) rows)
   on-ordinal-judged r kind names scope d is (DateOutcome.day-refused i w e) rows = absurd (w scope)
   on-ordinal-judged r kind names scope d is (DateOutcome.found i p k n z m e) rows =
       subst (Judged (contentRows s) s) (date-accepted _ _ d is z) (Judged.accepted refl rows (kept-by-date r d names i k n m e))
 
   ordinal-judged-by : kindOf s ≡ 3 → (y : Days) → y ≡ daysOf (systemOf s) (yearIn s) → DaysOutcome (systemOf s) (yearIn s) y
-    → Judged (contentRows s) s (judgeOrdinal (systemOf s) (yearIn s) (ordinalIn s))
+      → Judged (contentRows s) s (judgeOrdinal (systemOf s) (yearIn s) (ordinalIn s))
   ordinal-judged-by kind y is (DaysOutcome.system-refused w e) =
       Judged.refused 4 (omega arith) (sym (year-refused _ _ _ y is (λ z. omega (arith, ap (λ x. x .refusal) e))) ∙ ap (λ x. refuse (x .refusal)) e)
       (inl (refl, w))
@@ -271,17 +238,17 @@ module _ (s : List ℕ) where
   ordinal-judged-by kind y is (DaysOutcome.found i span-of z h l) =
       by-inside 1 (y .length) (ordinalIn s)
       (λ e out.
-        Judged.refused 7 (omega arith) (sym (ordinal-wrong _ _ _ y is z e))
-        (place-rows i (λ v. omega (arith, v .0)) (inl (refl, ordinal-not-placed kind span-of (λ p. out (subst (λ x. Inside 1 x (ordinalIn s)) (sym l) p))))))
+      Judged.refused 7 (omega arith) (sym (ordinal-wrong _ _ _ y is z e))
+      (place-rows i (λ v. omega (arith, v .0)) (inl (refl, ordinal-not-placed kind span-of (λ p. out (subst (λ x. Inside 1 x (ordinalIn s)) (sym l) p))))))
       (λ e into.
-        let inside = subst (λ x. Inside 1 x (ordinalIn s)) l into in
-        let r = y .head .0 + ordinalIn s - 1 in
-        let day-is : r + c .anchor ≡ dayOfOrdinal span-of (ordinalIn s) = omega (arith, into) in
-        subst (Judged (contentRows s) s) (ordinal-right _ _ _ y is z e)
-        (on-ordinal-judged r kind (Names.by-ordinal kind span-of day-is)
-        (day-of-year-in-scope r i span-of (omega (arith, into)) (omega (arith, inside)))
-        _ refl (date-outcome (systemOf s) r)
-        (place-rows i (λ v. omega (arith, v .0)) (inr (λ v. v (Placed.ordinal-in-year kind span-of inside), refl)))))
+      let inside = subst (λ x. Inside 1 x (ordinalIn s)) l into in
+      let r = y .head .0 + ordinalIn s - 1 in
+      let day-is : r + c .anchor ≡ dayOfOrdinal span-of (ordinalIn s) = omega (arith, into) in
+      subst (Judged (contentRows s) s) (ordinal-right _ _ _ y is z e)
+      (on-ordinal-judged r kind (Names.by-ordinal kind span-of day-is)
+      (year-day-in-scope (systemOf s) (yearIn s) r i span-of (omega (arith, into)) (omega (arith, inside)))
+      _ refl (date-outcome (systemOf s) r)
+      (place-rows i (λ v. omega (arith, v .0)) (inr (λ v. v (Placed.ordinal-in-year kind span-of inside), refl)))))
 
   pub ordinal-judged : kindOf s ≡ 3 → Judged (contentRows s) s (judgeOrdinal (systemOf s) (yearIn s) (ordinalIn s))
   ordinal-judged kind = ordinal-judged-by kind _ refl (days-outcome (systemOf s) (yearIn s))

@@ -13,3 +13,13 @@ pub mod OneDay
 pub mod Judged
 -- Every citation is judged by the table.
 pub mod Refusals
+-- A register day has one date in a system.
+pub mod OneDate
+-- A stored record is itself a citation.
+pub mod StoredRecord
+-- Stored records are canonical.
+pub mod Canonical
+-- Citations of kind 1.
+pub mod KindOne
+-- The three demands: the summary.
+pub mod Demands

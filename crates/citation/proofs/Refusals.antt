@@ -20,7 +20,7 @@ use Rattle.citation.proofs.Judgements.{kind-one, kind-two, kind-three, 
 use Rattle.citation.proofs.Judged.{Judged, day-judged, name-judged, ordinal-judged, register-day-judged}
 use Rattle.citation.proofs.Storing.{refusal-kept, refusal-eight, refusal-none}
 
-by-equal : {P : Type 0} (m n : ℕ) → (m ≡ n → P) → ((m ≡ n → ⊥) → P) → P
+pub by-equal : {P : Type 0} (m n : ℕ) → (m ≡ n → P) → ((m ≡ n → ⊥) → P) → P
 by-equal m n f g = elim (ℕ-discrete m n) [ yes e ↦ f e | no e ↦ g e ]
 
 module _ (s : List ℕ) where
@@ -30,12 +30,12 @@ module _ (s : List ℕ) where
       by-order (kindOf s) 2
       (λ h. let e : kindOf s ≡ 1 = omega (arith, i) in subst (Judged (contentRows s) s) (kind-one s e) (day-judged s e))
       (λ h.
-        by-order (kindOf s) 3
-        (λ l. let e : kindOf s ≡ 2 = omega arith in subst (Judged (contentRows s) s) (kind-two s e) (name-judged s e))
-        (λ l.
-          by-order (kindOf s) 4
-          (λ m. let e : kindOf s ≡ 3 = omega arith in subst (Judged (contentRows s) s) (kind-three s e) (ordinal-judged s e))
-          (λ m. let e : kindOf s ≡ 4 = omega (arith, i) in subst (Judged (contentRows s) s) (kind-four s e) (register-day-judged s e))))
+      by-order (kindOf s) 3
+      (λ l. let e : kindOf s ≡ 2 = omega arith in subst (Judged (contentRows s) s) (kind-two s e) (name-judged s e))
+      (λ l.
+      by-order (kindOf s) 4
+      (λ m. let e : kindOf s ≡ 3 = omega arith in subst (Judged (contentRows s) s) (kind-three s e) (ordinal-judged s e))
+      (λ m. let e : kindOf s ≡ 4 = omega (arith, i) in subst (Judged (contentRows s) s) (kind-four s e) (register-day-judged s e))))
 
   -- It is a record: its content decides.
   content-decides : (j : Judgement) → (TooShort s → ⊥) → (WrongKind s → ⊥) → (WrongLength s → ⊥) → Judged (contentRows s) s j → Judged (citationRows s) s j
@@ -47,17 +47,17 @@ module _ (s : List ℕ) where
       by-order (length s) 4
       (λ h. Judged.refused 1 (omega arith) (sym (too-short s h)) (inl (refl, h)))
       (λ h.
-        by-inside 1 4 (kindOf s)
-        (λ e out. Judged.refused 2 (omega arith) (sym (wrong-kind s h e)) (inr (λ v. omega arith, inl (refl, out))))
-        (λ e into.
-          by-equal (lengthField s) (kindLength (kindOf s))
-          (λ f.
-            by-equal (length s) (lengthField s)
-            (λ g.
-              subst (Judged (citationRows s) s) (right-size s h e f g)
-              (content-decides (judgeKind s) (λ v. omega arith) (λ v. v into) (λ v. v (f, g)) (kind-judged into)))
-            (λ g. Judged.refused 3 (omega arith) (sym (wrong-size s h e f g)) (inr (λ v. omega arith, inr (λ v. v into, inl (refl, λ p. g (p .1)))))))
-          (λ f. Judged.refused 3 (omega arith) (sym (wrong-field s h e f)) (inr (λ v. omega arith, inr (λ v. v into, inl (refl, λ p. f (p .0))))))))
+      by-inside 1 4 (kindOf s)
+      (λ e out. Judged.refused 2 (omega arith) (sym (wrong-kind s h e)) (inr (λ v. omega arith, inl (refl, out))))
+      (λ e into.
+      by-equal (lengthField s) (kindLength (kindOf s))
+      (λ f.
+      by-equal (length s) (lengthField s)
+      (λ g.
+      subst (Judged (citationRows s) s) (right-size s h e f g)
+      (content-decides (judgeKind s) (λ v. omega arith) (λ v. v into) (λ v. v (f, g)) (kind-judged into)))
+      (λ g. Judged.refused 3 (omega arith) (sym (wrong-size s h e f g)) (inr (λ v. omega arith, inr (λ v. v into, inl (refl, λ p. g (p .1)))))))
+      (λ f. Judged.refused 3 (omega arith) (sym (wrong-field s h e f)) (inr (λ v. omega arith, inr (λ v. v into, inl (refl, λ p. f (p .0))))))))
 
 -- The number that the storing step answers is that of the first row that applies, and 0 where none does;
 pub refusal-first : (s : List ℕ) (room : ℕ) → FirstOf (storingRows s room) (refusalOf s room)
@@ -71,11 +71,11 @@ refusal-first s room = go (judged s)
     go (Judged.accepted z rows kept) =
         by-order room 10
         (λ h.
-          subst (FirstOf (storingRows s room)) (sym (refusal-eight s room (judgeOf s) refl z h))
-          (first-after (citationRows s) (8 when NoRoom room ∷ []) 8 (omega arith) rows (inl (refl, h))))
+        subst (FirstOf (storingRows s room)) (sym (refusal-eight s room (judgeOf s) refl z h))
+        (first-after (citationRows s) (8 when NoRoom room ∷ []) 8 (omega arith) rows (inl (refl, h))))
         (λ h.
-          subst (FirstOf (storingRows s room)) (sym (refusal-none s room (judgeOf s) refl z h))
-          (first-after (citationRows s) (8 when NoRoom room ∷ []) 0 (omega arith) rows (inr (λ v. omega arith, refl))))
+        subst (FirstOf (storingRows s room)) (sym (refusal-none s room (judgeOf s) refl z h))
+        (first-after (citationRows s) (8 when NoRoom room ∷ []) 0 (omega arith) rows (inr (λ v. omega arith, refl))))
 
 -- and no other number is.
 pub refusal-only : (s : List ℕ) (room number : ℕ) → FirstOf (storingRows s room) number → number ≡ refusalOf s room

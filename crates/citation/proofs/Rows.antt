@@ -33,3 +33,13 @@ first-after ((refusal when applies) ∷ rows) more n k p q =
     (λ a. absurd (omega (arith, a .0, k .0)))
     (λ a. inr (a .0, first-after rows more n (k .1) (a .1) q))
     p
+
+-- Where none applies, each does not.
+abbrev pub NoneOf : List Row → Type 0
+NoneOf [] = Unit {0}
+NoneOf ((refusal when applies) ∷ rows) = (applies → ⊥) × NoneOf rows
+
+pub none-applies : (rows : List Row) → Numbered rows → FirstOf rows 0 → NoneOf rows
+none-applies [] k p = tt
+none-applies ((refusal when applies) ∷ rows) k p =
+    ⊎-elim (λ a. absurd (omega (arith, a .0, k .0))) (λ a. (a .0, none-applies rows (k .1) (a .1))) p

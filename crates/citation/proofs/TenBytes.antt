@@ -16,6 +16,9 @@ unfolding elements
 elements-drop l zero i e = drop-of-length-le l {i = i} (omega arith)
 elements-drop l (suc n) i e = drop-cons l i 0 (omega arith) ∙ ap (λ t. getD l i 0 ∷ t) (elements-drop l n (suc i) (omega arith))
 
+pub elements-all : (l : List ℕ) (n : ℕ) → n ≡ length l → l ≡ elements l 0 n
+elements-all l n e = elements-drop l n 0 (omega arith)
+
 -- A list written element by element over the front of another.
 pub front-set : (l r : List ℕ) → length r ≡ 10 → 10 ≤ length l → sets l 0 (elements r 0 10) ≡ r ++ drop 10 l
 unfolding elements

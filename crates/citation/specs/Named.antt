@@ -4,10 +4,12 @@ use Prim.Native.Nat.{ℕ, _+_, _-_}
 use mathlib.Core.Path.{_≡_}
 use mathlib.Core.List.{List}
 use Rattle.calendar.specs.declared.data.Constants.{Constants}
+use Rattle.calendar.specs.Inside.{Inside}
 use Rattle.calendar.specs.Systems.{constantsOf, yearsElapsed}
 use Rattle.calendar.specs.Name.{nameOf}
-use Rattle.calendar.specs.Month.{InMonth, dayOfMonth}
+use Rattle.calendar.specs.Month.{InMonth, monthLength, dayOfMonth}
 use Rattle.calendar.specs.Year.{Span, MonthNamed, dayOfOrdinal}
+use Rattle.reckoning.specs.Scope.{InScope}
 use Rattle.citation.specs.Record.{kindOf, systemOf, yearIn, monthIn, leapIn, dayIn, nameIn, ordinalIn, registerDayIn}
 
 -- The constants of its system, and its year told by years elapsed.
@@ -32,3 +34,11 @@ pub data Names (s : List ℕ) (r : ℕ) : Type 0 where
   by-ordinal : kindOf s ≡ 3 → (y : Span (constantsIn s) (elapsedIn s)) → r + constantsIn s .anchor ≡ dayOfOrdinal y (ordinalIn s) → Names s r
   -- kind 4: the register day written in it
   by-register-day : kindOf s ≡ 4 → r ≡ registerDayIn s → Names s r
+
+-- Register day r is, in a system, day `day` of the month with a number and a leap mark of a year in scope.
+pub record OnDate (system r year month leap day : ℕ) : Type 0 where
+  pub k : ℕ
+  pub in-scope : InScope system year
+  pub named : MonthNamed (constantsOf system) (yearsElapsed (constantsOf system) year) month leap k
+  pub placed : Inside 1 (monthLength (constantsOf system) k) day
+  pub day-is : r + constantsOf system .anchor ≡ dayOfMonth (constantsOf system) k day

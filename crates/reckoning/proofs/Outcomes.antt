@@ -10,15 +10,15 @@ use Rattle.calendar.specs.declared.data.Constants.{Constants}
 use Rattle.calendar.specs.Inside.{Inside}
 use Rattle.calendar.specs.Systems.{constantsOf, yearsElapsed}
 use Rattle.calendar.specs.Month.{monthHead}
-use Rattle.calendar.specs.Year.{MonthNamed, HasLeap}
+use Rattle.calendar.specs.Year.{Span, yearHead, nextHead, MonthNamed, HasLeap}
 use Rattle.calendar.specs.Consistent.{Consistent}
 use Rattle.calendar.specs.Calendar.{Calendar}
 use Rattle.calendar.specs.ClosedForms.{monthOfDay, yearOfMonth, headOfYear, monthNumber, leapMark, monthCited, leapFollows}
 use Rattle.calendar.proofs.EachSystem.{consistent}
 use Rattle.calendar.proofs.Rising.{by-order}
 use Rattle.calendar.proofs.Reckoned.{reckoned}
-use Rattle.calendar.proofs.Spans.{span, span-first, in-year, within}
-use Rattle.calendar.proofs.Months.{in-its-year, year-from, year-before}
+use Rattle.calendar.proofs.Spans.{span, span-first, span-next, in-year, within}
+use Rattle.calendar.proofs.Months.{in-its-year, years-rise, year-from, year-before}
 use Rattle.calendar.proofs.Laws.{named, leap-follows, ordinary-cited, leap-cited}
 use Rattle.reckoning.specs.Scope.{InScope}
 use Rattle.reckoning.specs.Room.{Registered, Reach}
@@ -172,3 +172,24 @@ date-outcome system r =
     by-day-scope system r
     (λ f no-day. O.DateOutcome.day-refused system-inside no-day (simp (e, f)))
     (λ f day. subst (O.DateOutcome system r) (simp (e, f)) (found-date system r system-inside day)))
+
+-- The days of a year in scope are in scope.
+pub year-day-in-scope : (system year r : ℕ) → InScope system year
+    → (y : Span (constantsOf system) (yearsElapsed (constantsOf system) year))
+    → yearHead y ≤ r + constantsOf system .anchor
+    → r + constantsOf system .anchor < nextHead y
+    → O.DayInScope system r
+year-day-in-scope system year r i y a b =
+    let c = constantsOf system in
+    let ok = consistent system in
+    let K = reckoned c ok in
+    let n = yearsElapsed c year in
+    let epoch = ok .epoch-before in
+    let from = years-rise K {n = yearsElapsed c 1} {m = n} (omega (arith, i .year-inside)) in
+    let before = years-rise K {n = n + 1} {m = yearsElapsed c 3001} (omega (arith, i .year-inside)) in
+    record {
+      first = span c ok (yearsElapsed c 1);
+      past = span c ok (yearsElapsed c 3001);
+      from = omega (arith, ap (monthHead c) (span-first c ok y));
+      before = omega (arith, ap (monthHead c) (span-next c ok y));
+    }

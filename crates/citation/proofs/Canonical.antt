@@ -1,0 +1,88 @@
+-- Stored records are canonical: equal just when they name the same day in the same system.
+use Prim.Native.Nat.{ℕ, _+_, _*_, _-_, _/_, _%_, _≤_, _<_}
+use mathlib.Core.Path.{_≡_, refl, subst, ap, sym, _∙_}
+use mathlib.Core.List.{List, [], _∷_, _++_}
+use native.Mathlib.Omega.{arith}
+use lib.ListN.{length, getD, take, drop}
+use Rattle.calendar.specs.Inside.{Inside}
+use Rattle.calendar.specs.Systems.{constantsOf, yearsElapsed}
+use Rattle.calendar.specs.Year.{DayOfYear}
+use Rattle.calendar.proofs.Rising.{by-order}
+use Rattle.reckoning.specs.declared.data.Date.{Date}
+use Rattle.reckoning.specs.Scope.{InScope}
+use Rattle.reckoning.specs.Requests.{dateOf}
+use Rattle.reckoning.specs.Outcomes.{DateOutcome, DayInScope}
+use Rattle.reckoning.proofs.Outcomes.{date-outcome}
+use Rattle.citation.specs.Record.{byte, Bytes, lengthField, kindOf, systemOf, yearIn, monthIn, leapIn, dayIn, recordOf}
+use Rattle.citation.specs.Named.{constantsIn, Names, OnDate}
+use Rattle.citation.specs.Refused.{Accepted, FirstOf, citationRows}
+use Rattle.citation.specs.Store.{judgeOf, refusalOf, answerOf, storedInto}
+use Rattle.citation.proofs.Rows.{first-unique}
+use Rattle.citation.proofs.OneDay.{names-unique}
+use Rattle.citation.proofs.OneDate.{record-unique}
+use Rattle.citation.proofs.StoredRecord.{record-accepted, record-names}
+use Rattle.citation.proofs.Judged.{Judged, Kept}
+use Rattle.citation.proofs.Refusals.{judged}
+use Rattle.citation.proofs.Storing.{refusal-none, answer-accepted, output-accepted}
+use Rattle.citation.proofs.TenBytes.{elements, elements-all}
+
+-- The first ten bytes of an output after a storing.
+abbrev pub stored : List ℕ → List ℕ → List ℕ
+stored s before = take 10 (storedInto s before)
+
+-- An accepted citation's judgement is no refusal, and keeps the day that it names.
+pub record Passed (s : List ℕ) : Type 0 where
+  pub no-refusal : (judgeOf s) .refusal ≡ 0
+  pub kept : Kept s (judgeOf s)
+
+pub passed : (s : List ℕ) → Accepted s → Passed s
+passed s a = go (judged s)
+  where
+    go : Judged (citationRows s) s (judgeOf s) → Passed s
+    go (Judged.refused number some e rows) = absurd (omega (arith, first-unique (citationRows s) number 0 rows a))
+    go (Judged.accepted z rows kept) = record { no-refusal = z; kept = kept }
+
+module _ (s before : List ℕ) (a : Accepted s) (room : 10 ≤ length before) where
+  abbrev κ : Kept s (judgeOf s)
+  κ = passed s a .kept
+
+  none : refusalOf s (length before) ≡ 0
+  none = refusal-none s (length before) (judgeOf s) refl (passed s a .no-refusal) room
+
+  pub answer-is : answerOf s (length before) ≡ (judgeOf s) .day
+  answer-is = sym (answer-accepted s (judgeOf s) refl (length before) none)
+
+  whole-output : recordOf (systemOf s) (κ .year) (κ .month) (κ .leap) (κ .day) ++ drop 10 before ≡ storedInto s before
+  whole-output = sym (ap (λ t. t ++ drop 10 before) (κ .stored)) ∙ output-accepted s (judgeOf s) refl before none
+
+  -- the first ten bytes are the record of the day's date, and the rest is left
+  pub stored-is : stored s before ≡ recordOf (systemOf s) (κ .year) (κ .month) (κ .leap) (κ .day)
+  stored-is = ap (take 10) (sym whole-output)
+
+  pub rest-left : drop 10 (storedInto s before) ≡ drop 10 before
+  rest-left = ap (drop 10) (sym whole-output)
+
+  pub stored-accepted : Accepted (stored s before)
+  stored-accepted = subst Accepted (sym stored-is) (record-accepted _ _ _ _ _ _ (κ .dated))
+
+  pub stored-names : Names (stored s before) ((judgeOf s) .day)
+  stored-names = subst (λ t. Names t ((judgeOf s) .day)) (sym stored-is) (record-names _ _ _ _ _ _ (κ .dated))
+
+  pub stored-system : systemOf (stored s before) ≡ systemOf s
+  stored-system = ap systemOf stored-is
+
+  pub stored-kind : kindOf (stored s before) ≡ 1
+  stored-kind = ap kindOf stored-is
+
+-- A day's record, however the day was cited: whoever stores a day of a date gets the record of that date.
+pub stored-of-date : (s before : List ℕ) → Accepted s → 10 ≤ length before → (system r year month leap day : ℕ) → systemOf s ≡ system → Names s r
+    → OnDate system r year month leap day
+    → stored s before ≡ recordOf system year month leap day
+stored-of-date s before a room system r year month leap day e n d =
+    let κ = passed s a .kept in
+    let same : (judgeOf s) .day ≡ r = names-unique s ((judgeOf s) .day) r (κ .names) n in
+    let here = subst (λ x. OnDate (systemOf s) x (κ .year) (κ .month) (κ .leap) (κ .day)) same (κ .dated) in
+    let there = subst (λ x. OnDate x r year month leap day) (sym e) d in
+    stored-is s before a room
+    ∙ record-unique (systemOf s) r (κ .year) (κ .month) (κ .leap) (κ .day) year month leap day here there
+    ∙ ap (λ x. recordOf x year month leap day) e

@@ -1,0 +1,116 @@
+-- Citations of kind 1: one for each day of a system, and every day has one.
+use Prim.Native.Nat.{ℕ, _+_, _*_, _-_, _/_, _%_, _≤_, _<_}
+use mathlib.Core.Path.{_≡_, refl, subst, ap, sym, _∙_}
+use mathlib.Core.Logic.{_⊎_, inl, inr, ⊎-elim}
+use mathlib.Core.List.{List, [], _∷_}
+use native.Mathlib.Omega.{arith}
+use lib.ListN.{length, getD}
+use Rattle.calendar.specs.Inside.{Inside}
+use Rattle.calendar.specs.Systems.{constantsOf, yearsElapsed}
+use Rattle.calendar.specs.Month.{monthLength}
+use Rattle.calendar.specs.Year.{DayOfYear}
+use Rattle.reckoning.specs.Scope.{InScope}
+use Rattle.reckoning.specs.declared.data.Date.{Date}
+use Rattle.reckoning.specs.Requests.{dateOf}
+use Rattle.reckoning.specs.Outcomes.{DateOutcome}
+use Rattle.reckoning.proofs.Refusals.{by-inside}
+use Rattle.reckoning.proofs.Outcomes.{date-outcome, year-day-in-scope}
+use Rattle.citation.specs.Record.{byte, Bytes, lengthField, kindOf, kindLength, systemOf, yearIn, monthIn, leapIn, dayIn, recordOf}
+use Rattle.citation.specs.Named.{constantsIn, elapsedIn, MonthIn, Names, OnDate}
+use Rattle.citation.specs.Refused.{Row, FirstOf, _when_, Accepted, citationRows, TooShort, WrongKind, WrongLength, WrongSystem, WrongYear, WrongMonth, NotPlaced}
+use Rattle.citation.proofs.Rows.{none-applies}
+use Rattle.citation.proofs.Judged.{day-not-placed}
+use Rattle.citation.proofs.OneDate.{record-unique}
+use Rattle.citation.proofs.Refusals.{by-equal}
+use Rattle.citation.proofs.TenBytes.{elements, elements-all}
+
+-- What an accepted citation does not have.
+pub record Rightly (s : List ℕ) : Type 0 where
+  pub length-right : WrongLength s → ⊥
+  pub system-right : WrongSystem s → ⊥
+  pub year-right : WrongYear s → ⊥
+  pub place-right : NotPlaced s → ⊥
+
+pub rightly : (s : List ℕ) → Accepted s → Rightly s
+rightly s a =
+    let none = none-applies (citationRows s) (omega arith) a in
+    record {
+      length-right = none .1 .1 .0;
+      system-right = none .1 .1 .1 .0;
+      year-right = none .1 .1 .1 .1 .0;
+      place-right = none .1 .1 .1 .1 .1 .1 .0;
+    }
+
+module _ (b : List ℕ) (a : Accepted b) (kind : kindOf b ≡ 1) where
+  -- its length is ten, and says so
+  ten-long : (lengthField b ≡ 10) × (length b ≡ 10)
+  ten-long =
+      let long : kindLength (kindOf b) ≡ 10 = ap kindLength kind in
+      by-equal (lengthField b) (kindLength (kindOf b))
+      (λ f.
+      by-equal (length b) (lengthField b)
+      (λ g. (f ∙ long, g ∙ f ∙ long))
+      (λ g. absurd (rightly b a .length-right (λ p. g (p .1)))))
+      (λ f. absurd (rightly b a .length-right (λ p. f (p .0))))
+
+  -- it is the record of what it says
+  pub record-of-fields : Bytes b → b ≡ recordOf (systemOf b) (yearIn b) (monthIn b) (leapIn b) (dayIn b)
+  unfolding elements
+  record-of-fields bytes =
+      let l = ten-long in
+      let e0 : byte b 0 ≡ 10 = omega arith in
+      let e1 : byte b 1 ≡ 0 = omega arith in
+      let e2 : byte b 2 ≡ 1 = omega arith in
+      let e3 : byte b 3 ≡ 0 = omega arith in
+      let e5 : byte b 5 ≡ yearIn b % 256 = omega (arith, bytes 5) in
+      let e6 : byte b 6 ≡ yearIn b / 256 = omega (arith, bytes 5) in
+      elements-all b 10 (sym (l .1))
+      ∙ (λ i. e0 i ∷ e1 i ∷ e2 i ∷ e3 i ∷ systemOf b ∷ e5 i ∷ e6 i ∷ monthIn b ∷ leapIn b ∷ dayIn b ∷ [])
+
+  in-scope : InScope (systemOf b) (yearIn b)
+  in-scope =
+      record {
+        system-inside = by-inside 1 2 (systemOf b) (λ e out. absurd (rightly b a .system-right out)) (λ e into. into);
+        year-inside = by-inside 1 3000 (yearIn b) (λ e out. absurd (rightly b a .year-right (omega arith, out))) (λ e into. into);
+      }
+
+  -- the day that it names is on the date that it says
+  pub on-its-date : (r : ℕ) → Names b r → OnDate (systemOf b) r (yearIn b) (monthIn b) (leapIn b) (dayIn b)
+  on-its-date r (Names.by-day e k m d) =
+      record {
+        k = k;
+        in-scope = in-scope;
+        named = m;
+        placed =
+            by-inside 1 (monthLength (constantsIn b) k) (dayIn b)
+            (λ f out. absurd (rightly b a .place-right (day-not-placed b kind k m out)))
+            (λ f into. into);
+        day-is = d;
+      }
+  on-its-date r (Names.by-name e k m i n) = absurd (omega arith)
+  on-its-date r (Names.by-ordinal e y d) = absurd (omega arith)
+  on-its-date r (Names.by-register-day e d) = absurd (omega arith)
+
+-- Every day of a year in scope has a date.
+pub record Dated (system r : ℕ) : Type 0 where
+  pub year : ℕ
+  pub month : ℕ
+  pub leap : ℕ
+  pub day : ℕ
+  pub on : OnDate system r year month leap day
+
+pub dated : (system year r : ℕ) → InScope system year → DayOfYear (constantsOf system) (yearsElapsed (constantsOf system) year) (r + constantsOf system .anchor)
+    → Dated system r
+dated system year r i d = go (dateOf system r) (date-outcome system r)
+  where
+    go : (v : Date) → DateOutcome system r v → Dated system r
+    go v (DateOutcome.system-refused w e) = absurd (w (i .system-inside))
+    go v (DateOutcome.day-refused s w e) = absurd (w (year-day-in-scope system year r i (d .span) (d .from) (d .before)))
+    go v (DateOutcome.found s p k n z m e) =
+        record {
+          year = v .year;
+          month = v .month;
+          leap = v .leap;
+          day = v .day;
+          on = record { k = k; in-scope = s; named = n; placed = record { at-least = omega arith; at-most = omega arith }; day-is = omega arith };
+        }

@@ -1,0 +1,66 @@
+-- A stored record is itself a citation: of kind 1, accepted, and naming the same day in the same system.
+use Prim.Native.Nat.{ℕ, _+_, _*_, _/_, _%_, _≤_, _<_}
+use mathlib.Core.Path.{_≡_, refl, subst, ap, sym, _∙_}
+use mathlib.Core.Logic.{_⊎_, inl, inr, ⊎-elim}
+use mathlib.Core.List.{List}
+use native.Mathlib.Omega.{arith}
+use Rattle.calendar.specs.declared.data.Constants.{Constants}
+use Rattle.calendar.specs.Consistent.{Consistent}
+use Rattle.calendar.specs.Inside.{Inside}
+use Rattle.calendar.specs.Systems.{constantsOf, yearsElapsed}
+use Rattle.calendar.specs.Year.{MonthNamed, HasLeap}
+use Rattle.calendar.proofs.EachSystem.{consistent}
+use Rattle.calendar.proofs.Laws.{number-inside, mark-inside}
+use Rattle.citation.specs.Record.{kindOf, yearIn, recordOf}
+use Rattle.citation.specs.Named.{elapsedIn, MonthIn, Names, OnDate}
+use Rattle.citation.specs.Refused.{Accepted, WrongMonth, Placed}
+
+module _ (system r year month leap day : ℕ) (d : OnDate system r year month leap day) where
+  abbrev c : Constants
+  c = constantsOf system
+
+  abbrev ok : Consistent c
+  ok = consistent system
+
+  abbrev rec : List ℕ
+  rec = recordOf system year month leap day
+
+  -- the two bytes of the year are read back as the year
+  year-read : yearIn rec ≡ year
+  year-read = omega arith
+
+  month-read : MonthIn rec (d .k)
+  month-read = subst (λ y. MonthNamed c (yearsElapsed c y) month leap (d .k)) (sym year-read) (d .named)
+
+  month-right : WrongMonth rec → ⊥
+  month-right w =
+      ⊎-elim
+      (λ v. v (number-inside c ok (elapsedIn rec) month leap (d .k) month-read))
+      (λ v.
+      ⊎-elim
+      (λ u. u (mark-inside c ok (elapsedIn rec) month leap (d .k) month-read))
+      (λ u. u .1 (record { month = d .k; is-leap = subst (λ x. MonthNamed c (elapsedIn rec) month x (d .k)) (u .0) month-read }))
+      v)
+      (w .1)
+
+  pub record-accepted : Accepted rec
+  record-accepted =
+      inr (
+        λ v. omega arith,
+        inr (
+          λ v. v (record { at-least = omega arith; at-most = omega arith }),
+          inr (
+            λ v. v (refl, refl),
+            inr (
+              λ v. v (d .in-scope .system-inside),
+              inr (
+                λ v. v .1 (subst (Inside 1 3000) (sym year-read) (d .in-scope .year-inside)),
+                inr (month-right, inr (λ v. v (Placed.day-in-month refl (d .k) month-read (d .placed)), refl)),
+              ),
+            ),
+          ),
+        ),
+      )
+
+  pub record-names : Names rec r
+  record-names = Names.by-day refl (d .k) month-read (d .day-is)
