@@ -23,3 +23,5 @@ pub mod Canonical
 pub mod KindOne
 -- The three demands: the summary.
 pub mod Demands
+-- The proved examples of paper 01.
+pub mod Examples

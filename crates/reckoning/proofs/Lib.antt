@@ -17,8 +17,6 @@ pub mod MonthsHeld
 pub mod Fill
 -- The other answers hold what the reckoning says.
 pub mod AnswersHeld
--- The proved examples of paper 01.
-pub mod Examples
 -- How the other requests end.
 pub mod Outcomes
 -- Answers leave room for the days that follow a head.
