@@ -1,0 +1,7 @@
+-- Laws that serve several functions.
+-- Text written piece by piece.
+pub mod Writing
+-- Decimal numbers by their size.
+pub mod Decimals
+-- The text of a line from its pieces.
+pub mod Lines

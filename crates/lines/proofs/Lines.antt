@@ -1,0 +1,31 @@
+-- The text of a line from its pieces.
+use Prim.Native.Nat.{ℕ}
+use mathlib.Core.Path.{_≡_, refl, subst, ap, _∙_}
+use mathlib.Core.Bool.{Bool, true, false, cond}
+use mathlib.Core.List.{List, [], _∷_, _++_}
+use lib.Dec.{eqb}
+use borrow.Author.Tests.{eq-eqb, ne-eqb}
+use Rattle.citation.specs.declared.judge.Judgement.{Judgement}
+use Rattle.citation.specs.Store.{judgeOf}
+use Rattle.lines.specs.Line.{star, dayLine, refusedLine, lineOf}
+
+-- A star and a space, or a space alone.
+pub star-and-space : (leap both : ℕ) (text : List ℕ) → both ≡ cond (eqb leap 0) 0 1
+    → cond (eqb both 0) (32 ∷ []) (42 ∷ 32 ∷ []) ++ text ≡ star leap ++ (32 ∷ text)
+star-and-space leap both text e = ap (λ x. cond (eqb x 0) (32 ∷ []) (42 ∷ 32 ∷ []) ++ text) e ∙ either (eqb leap 0)
+  where
+    either : (b : Bool) → cond (eqb (cond b 0 1) 0) (32 ∷ []) (42 ∷ 32 ∷ []) ++ text ≡ cond b [] (42 ∷ []) ++ (32 ∷ text)
+    either true = refl
+    either false = refl
+
+module _ (s : List ℕ) (j : Judgement) (e : j ≡ judgeOf s) where
+  abbrev line-by : Judgement → List ℕ
+  line-by x = cond (eqb (x .refusal) 0) (dayLine (x .stored) (x .day)) (refusedLine (x .refusal))
+
+  pub line-refused : (j .refusal ≡ 0 → ⊥) → refusedLine (j .refusal) ≡ lineOf s
+  unfolding lineOf
+  line-refused h = subst (λ x. refusedLine (j .refusal) ≡ line-by x) e (simp (ne-eqb (j .refusal) 0 h))
+
+  pub line-accepted : j .refusal ≡ 0 → dayLine (j .stored) (j .day) ≡ lineOf s
+  unfolding lineOf
+  line-accepted h = subst (λ x. dayLine (j .stored) (j .day) ≡ line-by x) e (simp (eq-eqb (j .refusal) 0 h))

@@ -1,0 +1,43 @@
+-- The line that the program writes for a record: paper 01, "The program".
+use Prim.Native.Nat.{ℕ, _+_}
+use mathlib.Core.Bool.{cond}
+use mathlib.Core.List.{List, [], _∷_, _++_}
+use lib.Dec.{eqb}
+use Rattle.calendar.specs.Name.{nameOf}
+use Rattle.citation.specs.Record.{systemOf, yearIn, monthIn, leapIn, dayIn}
+use Rattle.citation.specs.declared.judge.Judgement.{Judgement}
+use Rattle.citation.specs.Store.{judgeOf}
+use Rattle.lines.specs.Decimal.{decimal}
+
+-- A space and a number.
+abbrev pub field : ℕ → List ℕ
+field n = 32 ∷ decimal n
+
+abbrev pub newline : List ℕ
+newline = 10 ∷ []
+
+-- The system's letter, G or J.
+abbrev pub letter : ℕ → List ℕ
+letter system = cond (eqb system 1) 71 74 ∷ []
+
+-- '*' after a leap month's number.
+abbrev pub star : ℕ → List ℕ
+star leap = cond (eqb leap 0) [] (42 ∷ [])
+
+-- A date by its stored record: letter, year, month, with '*' after it if leap, and day.
+abbrev pub dateText : List ℕ → List ℕ
+dateText s =
+    letter (systemOf s) ++ (field (yearIn s) ++ (field (monthIn s) ++ (star (leapIn s) ++ field (dayIn s))))
+
+-- The date, the register day and its name.
+abbrev pub dayLine : List ℕ → ℕ → List ℕ
+dayLine s r = dateText s ++ (field r ++ (field (nameOf r) ++ newline))
+
+-- "refused" and the number.
+abbrev pub refusedLine : ℕ → List ℕ
+refusedLine number = (114 ∷ 101 ∷ 102 ∷ 117 ∷ 115 ∷ 101 ∷ 100 ∷ []) ++ (field number ++ newline)
+
+-- The line of a record.
+unfoldable pub lineOf : List ℕ → List ℕ
+lineOf s =
+    let j = judgeOf s in cond (eqb (j .refusal) 0) (dayLine (j .stored) (j .day)) (refusedLine (j .refusal))
