@@ -7,7 +7,7 @@ use mathlib.Core.Bool.{true}
 use borrow.Author.Tests.{lt-ltb, ltb-true}
 use Rattle.calendar.specs.declared.data.Constants.{Constants}
 use Rattle.calendar.specs.Inside.{Inside}
-use Rattle.calendar.specs.One.{One}
+use Rattle.calendar.specs.ExactlyOne.{ExactlyOne}
 use Rattle.calendar.specs.Month.{monthHead, InMonth, monthLength, Holds, HoldsSome, Lacks, numberOf, Bears, Marked}
 use Rattle.calendar.specs.Year.{Span, monthCount, yearHead, nextHead, yearLength, lengthsFrom, InYear, DayOfYear, MonthNamed}
 use Rattle.calendar.specs.Consistent.{Consistent}
@@ -77,7 +77,7 @@ module _ (c : Constants) (ok : Consistent c) where
       omega (arith, ap (monthHead c) e, lengths-telescope (monthCount y) (y .first))
 
   -- Each month is in exactly one year.
-  pub month-in-one-year : (k : ℕ) → One (λ n. InYear c n k)
+  pub month-in-one-year : (k : ℕ) → ExactlyOne (λ n. InYear c n k)
   month-in-one-year k =
       record {
         it = yearOfMonth c k;
@@ -86,7 +86,7 @@ module _ (c : Constants) (ok : Consistent c) where
       }
 
   -- The months of a year tile its days: each day of the year is in exactly one of them,
-  pub months-cover : (n d : ℕ) → DayOfYear c n d → One (λ k. InYear c n k × InMonth c k d)
+  pub months-cover : (n d : ℕ) → DayOfYear c n d → ExactlyOne (λ k. InYear c n k × InMonth c k d)
   months-cover n d y =
       record {
         it = monthOfDay c d;
@@ -102,7 +102,7 @@ module _ (c : Constants) (ok : Consistent c) where
       record { span = i .span; from = omega arith; before = omega arith }
 
   -- Each day is in exactly one year.
-  pub day-in-one-year : (d : ℕ) → One (λ n. DayOfYear c n d)
+  pub day-in-one-year : (d : ℕ) → ExactlyOne (λ n. DayOfYear c n d)
   unfolding months-cover
   day-in-one-year d =
       let year = month-in-one-year (monthOfDay c d) in
@@ -120,7 +120,7 @@ module _ (c : Constants) (ok : Consistent c) where
       holds-of-held c ok k (twelve-hold K n (omega arith) k (within c ok n k i))
 
   -- and of thirteen exactly one does.
-  pub thirteen-one-leap : {n : ℕ} (y : Span c n) → monthCount y ≡ 13 → One (λ k. InYear c n k × Lacks c k)
+  pub thirteen-one-leap : {n : ℕ} (y : Span c n) → monthCount y ≡ 13 → ExactlyOne (λ k. InYear c n k × Lacks c k)
   thirteen-one-leap {n} y e =
       let a = span-first c ok y in
       let b = span-next c ok y in
@@ -137,6 +137,15 @@ module _ (c : Constants) (ok : Consistent c) where
       let x = qi-of-held K (12 * n + j) k (month-of-held c ok k n j p) in
       let y = qi-of-held K (12 * m + i) k (month-of-held c ok k m i q) in
       omega arith
+
+  -- The middle qi that a month of a year holds is one of that year.
+  pub qi-of-its-year : (n k : ℕ) → InYear c n k → (h : HoldsSome c k) → h .year ≡ n
+  qi-of-its-year n k i h =
+      omega
+      ( arith
+      , h .is-middle
+      , qi-of-held K (12 * h .year + h .index) k (month-of-held c ok k (h .year) (h .index) (h .holds))
+      , year-unique K n k (within c ok n k i) )
 
   -- Each month of a year has its number and its leap mark,
   pub named : (n k : ℕ) → InYear c n k → MonthNamed c n (monthNumber c k) (leapMark c k) k
@@ -203,7 +212,7 @@ module _ (c : Constants) (ok : Consistent c) where
       cited-here n number 1 h
       (qi-unique K (qiOfNumber n number) (monthCited c n number 1) (omega arith) (ltb-true _ _ f))
 
-  pub numbers-all-there : (n number : ℕ) → Inside 1 12 number → One (λ k. MonthNamed c n number 0 k)
+  pub numbers-all-there : (n number : ℕ) → Inside 1 12 number → ExactlyOne (λ k. MonthNamed c n number 0 k)
   numbers-all-there n number h =
       let it = ordinary-cited n number h in
       record { it = monthCited c n number 0; has = it; only = λ l q. named-unique n number 0 l (monthCited c n number 0) q it }

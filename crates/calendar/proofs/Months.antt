@@ -5,7 +5,7 @@ use mathlib.Core.Logic.{_⊎_, inl, inr}
 use native.Mathlib.Nat.{zero-add}
 use native.Mathlib.Decide.{ℕ-discrete}
 use native.Mathlib.Omega.{arith}
-use Rattle.calendar.specs.One.{One}
+use Rattle.calendar.specs.ExactlyOne.{ExactlyOne}
 use Rattle.calendar.specs.Calendar.{Calendar}
 use Rattle.calendar.proofs.Rising.{by-order, rises-by, monotone, rises-strictly, below-back, place-unique, even-rise, double-step, DoubleStep}
 
@@ -183,7 +183,7 @@ module _ (K : Calendar) where
         in
         held (y + (k - passed-over - 1)) k (omega (arith, double))
 
-    one-lacks : One (Lacking K n)
+    one-lacks : ExactlyOne (Lacking K n)
     unfolding passed-over
     one-lacks =
         record {
@@ -195,6 +195,6 @@ module _ (K : Calendar) where
               (λ b. by-order passed-over k (λ a. absurd (l .1 (after-it k a (l .0 .1)))) (λ a. omega arith));
         }
 
-  pub thirteen-one-lacks : (n : ℕ) → first K (n + 1) ≡ first K n + 13 → One (Lacking K n)
+  pub thirteen-one-lacks : (n : ℕ) → first K (n + 1) ≡ first K n + 13 → ExactlyOne (Lacking K n)
   thirteen-one-lacks n e =
       one-lacks n e (double-step (K .monthOfQi) (K .qi-rises) 12 (12 * n) (omega (arith, next-first n)))

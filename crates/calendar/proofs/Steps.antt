@@ -1,11 +1,11 @@
 -- Equal steps of a year, and moments told as days, parts and small units.
 use Prim.Native.Nat.{ℕ, _+_, _*_, _/_, _%_, _≤_, _<_}
-use mathlib.Core.Path.{_≡_, refl, ap}
-use native.Mathlib.Nat.{div-add-mod', mod-lt}
+use mathlib.Core.Path.{_≡_, refl, ap, _∙_}
+use native.Mathlib.Nat.{div-add-mod', mod-lt, mul-div-cancel}
 use native.Mathlib.Omega.{arith}
 use Rattle.calendar.specs.declared.data.Constants.{Constants}
-use Rattle.calendar.specs.Systems.{guantian}
-use Rattle.calendar.specs.Qi.{solstice, step, moment, qi, dayOf, partsOf, unitsOf}
+use Rattle.calendar.specs.Systems.{guantian, jiyuan}
+use Rattle.calendar.specs.Qi.{solstice, solsticeDay, solsticeRemainder, step, moment, qi, dayOf, partsOf, unitsOf}
 use Rattle.calendar.specs.Consistent.{Consistent}
 
 -- s steps make a year: s divides its small units.
@@ -45,3 +45,17 @@ guantian-step = refl
 
 pub guantian-double-step : 2 * step guantian 24 ≡ (30 * 12_030 + 5256) * 36 + 24
 guantian-double-step = refl
+
+-- The step that 003 prints, 15 days, 1,592 parts and three quarters.
+pub jiyuan-step : step jiyuan 24 ≡ (15 * 7290 + 1592) * 4 + 3
+jiyuan-step = refl
+
+-- Qi 0 is the winter solstice.
+pub qi-zero : (c : Constants) → Consistent c → (n : ℕ)
+  → (dayOf c (qi c n 0) ≡ solsticeDay c n) × (partsOf c (qi c n 0) ≡ solsticeRemainder c n) × (unitsOf c (qi c n 0) ≡ 0)
+qi-zero c ok n =
+    let here : qi c n 0 ≡ solstice c n * c .units = omega arith in
+    let whole : qi c n 0 / c .units ≡ solstice c n = ap (λ u. u / c .units) here ∙ mul-div-cancel (solstice c n) (ok .units-some) in
+    ( ap (λ t. t / c .day) whole
+    , ap (λ t. t % c .day) whole
+    , omega (arith, div-add-mod' (qi c n 0) (c .units), ap (λ t. t * c .units) whole) )

@@ -12,7 +12,7 @@ pub mod Year
 -- A number in a range.
 pub mod Inside
 -- Exactly one number with a property, as the laws say it.
-pub mod One
+pub mod ExactlyOne
 -- What the laws ask of a system's constants.
 pub mod Consistent
 -- What the laws need of a calendar, and nothing else.

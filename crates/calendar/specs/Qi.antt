@@ -15,7 +15,7 @@ solsticeDay c n = solstice c n / c .day
 abbrev pub solsticeRemainder : Constants → ℕ → ℕ
 solsticeRemainder c n = solstice c n % c .day
 
--- One of s equal steps of a year, in small units. Where s divides the year's small units, nothing is lost.
+-- ExactlyOne of s equal steps of a year, in small units. Where s divides the year's small units, nothing is lost.
 abbrev pub step : Constants → ℕ → ℕ
 step c s = c .year * c .units / s
 

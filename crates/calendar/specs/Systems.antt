@@ -32,7 +32,7 @@ jiyuan =
       anchor = 10_448_760_934;
     }
 
--- The constants of a system by its number; whoever asks has refused any number but 1 and 2.
+-- The constants that a system's number picks; a request with any number but 1 and 2 is refused.
 abbrev pub constantsOf : ℕ → Constants
 constantsOf system = cond (eqb system 1) guantian jiyuan
 

@@ -1,6 +1,6 @@
 // The constants of the two systems.
 ghost use mathlib.Core.Path.{_≡_};
-ghost use Rattle.calendar.specs.Systems.{guantian, jiyuan, constantsOf};
+ghost use Rattle.calendar.specs.Systems.{guantian, jiyuan};
 use crate::data::Constants;
 
 pub fn guantian() -> Constants
@@ -31,11 +31,4 @@ pub fn jiyuan() -> Constants
         name: 15,
         anchor: 10_448_760_934,
     }
-}
-
-// By a system's number: 1 is Guantian, any other Jiyuan. Who asks has refused all but 1 and 2.
-pub fn constants_of(system: u32) -> Constants
-    ensures { λ r. ⌜ r ≡ constantsOf system ⌝ }
-{
-    if system == 1 { guantian() } else { jiyuan() }
 }

@@ -13,9 +13,10 @@ use Rattle.reckoning.specs.Scope.{InScope}
 use Rattle.reckoning.specs.Requests.{dateOf}
 use Rattle.reckoning.specs.Outcomes.{DateOutcome, DayInScope}
 use Rattle.reckoning.proofs.Outcomes.{date-outcome}
-use Rattle.citation.specs.Record.{byte, Bytes, lengthField, kindOf, systemOf, yearIn, monthIn, leapIn, dayIn, recordOf}
+use Rattle.citation.specs.Record.{byte, Bytes, lengthField, kindOf, systemOf, yearField, monthField, leapField, dayField, recordOf}
 use Rattle.citation.specs.Named.{constantsIn, Names, OnDate}
-use Rattle.citation.specs.Refused.{Accepted, FirstOf, citationRows}
+use Rattle.reckoning.specs.Rows.{FirstOf}
+use Rattle.citation.specs.Refused.{Accepted, citationRows}
 use Rattle.citation.specs.Store.{judgeOf, refusalOf, answerOf, storedInto}
 use Rattle.citation.proofs.Rows.{first-unique}
 use Rattle.citation.proofs.OneDay.{names-unique}
@@ -49,7 +50,7 @@ module _ (s before : List ℕ) (a : Accepted s) (room : 10 ≤ length before) wh
   none : refusalOf s (length before) ≡ 0
   none = refusal-none s (length before) (judgeOf s) refl (passed s a .no-refusal) room
 
-  pub answer-is : answerOf s (length before) ≡ (judgeOf s) .day
+  pub answer-is : answerOf s (length before) ≡ (judgeOf s) .day .0
   answer-is = sym (answer-accepted s (judgeOf s) refl (length before) none)
 
   whole-output : recordOf (systemOf s) (κ .year) (κ .month) (κ .leap) (κ .day) ++ drop 10 before ≡ storedInto s before
@@ -65,8 +66,8 @@ module _ (s before : List ℕ) (a : Accepted s) (room : 10 ≤ length before) wh
   pub stored-accepted : Accepted (stored s before)
   stored-accepted = subst Accepted (sym stored-is) (record-accepted _ _ _ _ _ _ (κ .dated))
 
-  pub stored-names : Names (stored s before) ((judgeOf s) .day)
-  stored-names = subst (λ t. Names t ((judgeOf s) .day)) (sym stored-is) (record-names _ _ _ _ _ _ (κ .dated))
+  pub stored-names : Names (stored s before) ((judgeOf s) .day .0)
+  stored-names = subst (λ t. Names t ((judgeOf s) .day .0)) (sym stored-is) (record-names _ _ _ _ _ _ (κ .dated))
 
   pub stored-system : systemOf (stored s before) ≡ systemOf s
   stored-system = ap systemOf stored-is
@@ -80,7 +81,7 @@ pub stored-of-date : (s before : List ℕ) → Accepted s → 10 ≤ length befo
     → stored s before ≡ recordOf system year month leap day
 stored-of-date s before a room system r year month leap day e n d =
     let κ = passed s a .kept in
-    let same : (judgeOf s) .day ≡ r = names-unique s ((judgeOf s) .day) r (κ .names) n in
+    let same : (judgeOf s) .day .0 ≡ r = names-unique s ((judgeOf s) .day .0) r (κ .names) n in
     let here = subst (λ x. OnDate (systemOf s) x (κ .year) (κ .month) (κ .leap) (κ .day)) same (κ .dated) in
     let there = subst (λ x. OnDate x r year month leap day) (sym e) d in
     stored-is s before a room

@@ -7,7 +7,7 @@ use mathlib.Core.List.{List}
 use native.Mathlib.Omega.{arith}
 use lib.ListN.{length, drop}
 use Rattle.calendar.specs.declared.data.Constants.{Constants}
-use Rattle.calendar.specs.One.{One}
+use Rattle.calendar.specs.ExactlyOne.{ExactlyOne}
 use Rattle.calendar.specs.Inside.{Inside}
 use Rattle.calendar.specs.Systems.{constantsOf, yearsElapsed}
 use Rattle.calendar.specs.Month.{InMonth, monthLength, HoldsSome, Lacks}
@@ -17,13 +17,14 @@ use Rattle.calendar.proofs.Spans.{span}
 use Rattle.calendar.proofs.Laws.{month-days, year-months, months-cover, months-stay-within, twelve-none-lacks, thirteen-one-leap}
 use Rattle.reckoning.specs.Scope.{InScope}
 use Rattle.reckoning.specs.Requests.{yearOf, solsticeOf, qiOf, sheetOf}
-use Rattle.reckoning.specs.YearValue.{HoldsYear, Tiled}
-use Rattle.reckoning.specs.Held.{HoldsSolstice, HoldsQi, HoldsSheet}
+use Rattle.reckoning.specs.YearValue.{ListsMonths, Tiled}
+use Rattle.reckoning.specs.Held.{IsSolstice, IsQi, IsSheet}
 use Rattle.reckoning.proofs.MonthsHeld as MonthsHeld
 use Rattle.reckoning.proofs.AnswersHeld as AnswersHeld
 use Rattle.citation.specs.Record.{Bytes, kindOf, systemOf, recordOf}
 use Rattle.citation.specs.Named.{Names, OnDate}
-use Rattle.citation.specs.Refused.{FirstOf, storingRows, Accepted}
+use Rattle.reckoning.specs.Rows.{FirstOf}
+use Rattle.citation.specs.Refused.{storingRows, Accepted}
 use Rattle.citation.specs.Store.{judgeOf, refusalOf, answerOf, storedInto}
 use Rattle.citation.proofs.OneDay.{names-unique}
 use Rattle.citation.proofs.OneDate.{record-unique}
@@ -57,31 +58,31 @@ module _ (system year : ℕ) (i : InScope system year) where
   abbrev n : ℕ
   n = yearsElapsed c year
 
-  pub solstice-holds : HoldsSolstice c n (solsticeOf system year)
+  pub solstice-holds : IsSolstice c n (solsticeOf system year)
   solstice-holds = AnswersHeld.solstice-holds system year i
 
-  pub qi-holds : (q : ℕ) → q ≤ 23 → HoldsQi c n q (qiOf system year q)
+  pub qi-holds : (q : ℕ) → q ≤ 23 → IsQi c n q (qiOf system year q)
   qi-holds = AnswersHeld.qi-holds system year i
 
-  pub months-hold : HoldsYear c n (yearOf system year)
+  pub months-hold : ListsMonths c n (yearOf system year)
   months-hold = MonthsHeld.year-holds system year i
 
-  pub sheet-holds : HoldsSheet c n (sheetOf system year)
+  pub sheet-holds : IsSheet c n (sheetOf system year)
   sheet-holds = AnswersHeld.sheet-holds system year i
 
 -- An accepted citation, of any kind, names one day;
-pub names-one-day : (s : List ℕ) → Accepted s → One (Names s)
+pub names-one-day : (s : List ℕ) → Accepted s → ExactlyOne (Names s)
 names-one-day s a =
     record {
-      it = (judgeOf s) .day;
+      it = (judgeOf s) .day .0;
       has = passed s a .kept .names;
-      only = λ r m. names-unique s r ((judgeOf s) .day) m (passed s a .kept .names);
+      only = λ r m. names-unique s r ((judgeOf s) .day .0) m (passed s a .kept .names);
     }
 
 -- stored in an output of ten bytes or more,
 module _ (s before : List ℕ) (a : Accepted s) (room : 10 ≤ length before) (r : ℕ) (m : Names s r) where
-  same-day : (judgeOf s) .day ≡ r
-  same-day = names-unique s ((judgeOf s) .day) r (passed s a .kept .names) m
+  same-day : (judgeOf s) .day .0 ≡ r
+  same-day = names-unique s ((judgeOf s) .day .0) r (passed s a .kept .names) m
 
   -- it answers that day, with no refusal,
   pub answers-its-day : answerOf s (length before) ≡ r
@@ -118,7 +119,7 @@ equal-exactly-when s before t under a room b space r q m o = (λ e. (same-system
     same-record : systemOf s ≡ systemOf t → r ≡ q → stored s before ≡ stored t under
     same-record e f =
         let κ = passed t b .kept in
-        let day = names-unique t ((judgeOf t) .day) q (κ .names) o in
+        let day = names-unique t ((judgeOf t) .day .0) q (κ .names) o in
         Canonical.stored-of-date s before a room (systemOf t) r (κ .year) (κ .month) (κ .leap) (κ .day) e m
         (subst (λ x. OnDate (systemOf t) x (κ .year) (κ .month) (κ .leap) (κ .day)) (day ∙ sym f) (κ .dated))
         ∙ sym (Canonical.stored-is t under b space)
@@ -132,7 +133,7 @@ pub stored-again-same : (s before under : List ℕ) → Accepted s → 10 ≤ le
 stored-again-same s before under a room space =
     let again = Canonical.stored-accepted s before a room in
     let names = Canonical.stored-names s before a room in
-    equal-exactly-when (stored s before) under s before again space a room ((judgeOf s) .day) ((judgeOf s) .day) names (passed s a .kept .names)
+    equal-exactly-when (stored s before) under s before again space a room ((judgeOf s) .day .0) ((judgeOf s) .day .0) names (passed s a .kept .names)
     .1 (Canonical.stored-system s before a room, refl)
 
 -- In each system every day of those years has exactly one stored record: it names that day, every storing that names the
@@ -170,10 +171,10 @@ pub record MonthsTile (c : Constants) (n : ℕ) : Type 0 where
   pub year : Span c n
   pub twelve-or-thirteen : (monthCount year ≡ 12) ⊎ (monthCount year ≡ 13)
   pub days : (k : ℕ) → InYear c n k → (monthLength c k ≡ 29) ⊎ (monthLength c k ≡ 30)
-  pub tile : (d : ℕ) → DayOfYear c n d → One (λ k. InYear c n k × InMonth c k d)
+  pub tile : (d : ℕ) → DayOfYear c n d → ExactlyOne (λ k. InYear c n k × InMonth c k d)
   pub no-overhang : (k d : ℕ) → InYear c n k → InMonth c k d → DayOfYear c n d
   pub of-twelve-none : monthCount year ≡ 12 → (k : ℕ) → InYear c n k → HoldsSome c k
-  pub of-thirteen-one : monthCount year ≡ 13 → One (λ k. InYear c n k × Lacks c k)
+  pub of-thirteen-one : monthCount year ≡ 13 → ExactlyOne (λ k. InYear c n k × Lacks c k)
 
 pub months-tile : (system year : ℕ) → InScope system year → MonthsTile (constantsOf system) (yearsElapsed (constantsOf system) year)
 months-tile system year i =

@@ -25,9 +25,10 @@ use Rattle.reckoning.specs.Outcomes.{MonthOutcome, DaysOutcome, DateOutcome, Da
 use Rattle.reckoning.proofs.Refusals.{by-inside}
 use Rattle.reckoning.proofs.Outcomes.{days-outcome, month-outcome, date-outcome, year-day-in-scope}
 use Rattle.citation.specs.declared.judge.Judgement.{Judgement}
-use Rattle.citation.specs.Record.{kindOf, systemOf, yearIn, monthIn, leapIn, dayIn, nameIn, ordinalIn, registerDayIn, recordOf}
-use Rattle.citation.specs.Named.{constantsIn, elapsedIn, MonthIn, Names, OnDate}
-use Rattle.citation.specs.Refused.{Row, FirstOf, contentRows, WrongMonth, Placed, NotPlaced}
+use Rattle.citation.specs.Record.{kindOf, systemOf, yearField, monthField, leapField, dayField, nameField, ordinalField, registerDayField, recordOf}
+use Rattle.citation.specs.Named.{constantsIn, elapsedIn, CitedMonth, Names, OnDate}
+use Rattle.reckoning.specs.Rows.{Row, FirstOf}
+use Rattle.citation.specs.Refused.{contentRows, WrongMonth, Placed, NotPlaced}
 use Rattle.citation.specs.Store.{refuse, accept, daysToName, judgeRegisterDay, judgeOrdinal, judgeDay, judgeName}
 use Rattle.citation.proofs.OneDay.{month-once}
 use Rattle.citation.proofs.Judgements.{date-refused, date-accepted, year-refused, ordinal-wrong, ordinal-right, month-refused, day-wrong, day-right, name-month-refused, no-name, name-past, name-right}
@@ -39,9 +40,9 @@ pub record Kept (s : List ℕ) (j : Judgement) : Type 0 where
   pub month : ℕ
   pub leap : ℕ
   pub day : ℕ
-  pub dated : OnDate (systemOf s) (j .day) year month leap day
+  pub dated : OnDate (systemOf s) (j .day .0) year month leap day
   pub stored : j .stored ≡ recordOf (systemOf s) year month leap day
-  pub names : Names s (j .day)
+  pub names : Names s (j .day .0)
 
 -- A citation judged by rows of refusals: the first that applies, or none.
 pub data Judged (rows : List Row) (s : List ℕ) (j : Judgement) : Type 0 where
@@ -54,12 +55,12 @@ module _ (s : List ℕ) where
 
   -- The month of kinds 1 and 2: refused 4, 5 or 6, or found.
   month-judged : (j : Judgement) (m : Month) → kindOf s ≤ 2
-      → MonthOutcome (systemOf s) (yearIn s) (monthIn s) (leapIn s) m
+      → MonthOutcome (systemOf s) (yearField s) (monthField s) (leapField s) m
       → ((m .refusal ≡ 0 → ⊥) → refuse (m .refusal) ≡ j)
-      → (InScope (systemOf s) (yearIn s)
+      → (InScope (systemOf s) (yearField s)
       → (WrongMonth s → ⊥)
       → (k : ℕ)
-      → MonthIn s k
+      → CitedMonth s k
       → m .refusal ≡ 0
       → m .head .0 + c .anchor ≡ monthHead c k
       → m .length ≡ monthLength c k
@@ -78,86 +79,86 @@ module _ (s : List ℕ) where
       (λ w.
       ⊎-elim
       (λ v. v a)
-      (λ v. ⊎-elim (λ u. u b) (λ u. u .1 (record { month = k; is-leap = subst (λ x. MonthNamed c (elapsedIn s) (monthIn s) x k) (u .0) n })) v)
+      (λ v. ⊎-elim (λ u. u b) (λ u. u .1 (record { month = k; is-leap = subst (λ x. MonthNamed c (elapsedIn s) (monthField s) x k) (u .0) n })) v)
       (w .1))
       k n z h l
 
   -- What is left to judge where system, year and month are right: the place.
-  place-rows : {number : ℕ} → InScope (systemOf s) (yearIn s) → (WrongMonth s → ⊥) → ((number ≡ 7) × NotPlaced s) ⊎ ((NotPlaced s → ⊥) × (number ≡ 0))
+  place-rows : {number : ℕ} → InScope (systemOf s) (yearField s) → (WrongMonth s → ⊥) → ((number ≡ 7) × NotPlaced s) ⊎ ((NotPlaced s → ⊥) × (number ≡ 0))
       → FirstOf (contentRows s) number
   place-rows i w p = inr (λ v. v (i .system-inside), inr (λ v. v .1 (i .year-inside), inr (w, p)))
 
   -- Kind 1.
-  pub day-not-placed : kindOf s ≡ 1 → (k : ℕ) → MonthIn s k → (Inside 1 (monthLength c k) (dayIn s) → ⊥) → NotPlaced s
+  pub day-not-placed : kindOf s ≡ 1 → (k : ℕ) → CitedMonth s k → (Inside 1 (monthLength c k) (dayField s) → ⊥) → NotPlaced s
   day-not-placed e k n out (Placed.day-in-month f l o i) =
-      out (subst (λ x. Inside 1 (monthLength c x) (dayIn s)) (month-once s l k o n) i)
+      out (subst (λ x. Inside 1 (monthLength c x) (dayField s)) (month-once s l k o n) i)
   day-not-placed e k n out (Placed.name-in-month f l r o i g) = omega arith
   day-not-placed e k n out (Placed.ordinal-in-year f y i) = omega arith
   day-not-placed e k n out (Placed.day-in-scope f d) = omega arith
 
-  pub day-judged : kindOf s ≡ 1 → Judged (contentRows s) s (judgeDay (systemOf s) (yearIn s) (monthIn s) (leapIn s) (dayIn s))
+  pub day-judged : kindOf s ≡ 1 → Judged (contentRows s) s (judgeDay (systemOf s) (yearField s) (monthField s) (leapField s) (dayField s))
   day-judged kind =
-      let m = monthOf (systemOf s) (yearIn s) (monthIn s) (leapIn s) in
-      month-judged (judgeDay (systemOf s) (yearIn s) (monthIn s) (leapIn s) (dayIn s)) m (omega arith)
-      (month-outcome (systemOf s) (yearIn s) (monthIn s) (leapIn s))
+      let m = monthOf (systemOf s) (yearField s) (monthField s) (leapField s) in
+      month-judged (judgeDay (systemOf s) (yearField s) (monthField s) (leapField s) (dayField s)) m (omega arith)
+      (month-outcome (systemOf s) (yearField s) (monthField s) (leapField s))
       (month-refused _ _ _ _ _ m refl)
       (λ i w k n z h l.
-      by-inside 1 (m .length) (dayIn s)
+      by-inside 1 (m .length) (dayField s)
       (λ e out.
       Judged.refused 7 (omega arith) (sym (day-wrong _ _ _ _ _ m refl z e))
-      (place-rows i w (inl (refl, day-not-placed kind k n (λ p. out (subst (λ x. Inside 1 x (dayIn s)) (sym l) p))))))
+      (place-rows i w (inl (refl, day-not-placed kind k n (λ p. out (subst (λ x. Inside 1 x (dayField s)) (sym l) p))))))
       (λ e into.
-      let inside = subst (λ x. Inside 1 x (dayIn s)) l into in
-      let j = accept (m .head .0 + dayIn s - 1) (systemOf s) (yearIn s) (monthIn s) (leapIn s) (dayIn s) in
-      let day-is : j .day + c .anchor ≡ dayOfMonth c k (dayIn s) = omega (arith, into) in
+      let inside = subst (λ x. Inside 1 x (dayField s)) l into in
+      let j = accept (m .head .0 + dayField s - 1) (systemOf s) (yearField s) (monthField s) (leapField s) (dayField s) in
+      let day-is : j .day .0 + c .anchor ≡ dayOfMonth c k (dayField s) = omega (arith, into) in
       subst (Judged (contentRows s) s) (day-right _ _ _ _ _ m refl z e)
       (Judged.accepted refl (place-rows i w (inr (λ v. v (Placed.day-in-month kind k n inside), refl)))
       (record {
-        year = yearIn s;
-        month = monthIn s;
-        leap = leapIn s;
-        day = dayIn s;
+        year = yearField s;
+        month = monthField s;
+        leap = leapField s;
+        day = dayField s;
         dated = record { k = k; in-scope = i; named = n; placed = inside; day-is = day-is };
         stored = refl;
         names = Names.by-day kind k n day-is;
       }))))
 
   -- Kind 2.
-  name-not-placed : kindOf s ≡ 2 → (k : ℕ) → MonthIn s k → ((r : ℕ) → InMonth c k (r + c .anchor) → nameOf r ≡ nameIn s → ⊥) → NotPlaced s
+  name-not-placed : kindOf s ≡ 2 → (k : ℕ) → CitedMonth s k → ((r : ℕ) → InMonth c k (r + c .anchor) → nameOf r ≡ nameField s → ⊥) → NotPlaced s
   name-not-placed e k n out (Placed.day-in-month f l o i) = omega arith
   name-not-placed e k n out (Placed.name-in-month f l r o i g) =
       out r (subst (λ x. InMonth c x (r + c .anchor)) (month-once s l k o n) i) g
   name-not-placed e k n out (Placed.ordinal-in-year f y i) = omega arith
   name-not-placed e k n out (Placed.day-in-scope f d) = omega arith
 
-  pub name-judged : kindOf s ≡ 2 → Judged (contentRows s) s (judgeName (systemOf s) (yearIn s) (monthIn s) (leapIn s) (nameIn s))
+  pub name-judged : kindOf s ≡ 2 → Judged (contentRows s) s (judgeName (systemOf s) (yearField s) (monthField s) (leapField s) (nameField s))
   name-judged kind =
-      let m = monthOf (systemOf s) (yearIn s) (monthIn s) (leapIn s) in
+      let m = monthOf (systemOf s) (yearField s) (monthField s) (leapField s) in
       let head = m .head .0 in
-      let days = daysToName head (nameIn s) in
-      month-judged (judgeName (systemOf s) (yearIn s) (monthIn s) (leapIn s) (nameIn s)) m (omega arith)
-      (month-outcome (systemOf s) (yearIn s) (monthIn s) (leapIn s))
+      let days = daysToName head (nameField s) in
+      month-judged (judgeName (systemOf s) (yearField s) (monthField s) (leapField s) (nameField s)) m (omega arith)
+      (month-outcome (systemOf s) (yearField s) (monthField s) (leapField s))
       (name-month-refused _ _ _ _ _ m refl)
       (λ i w k n z h l.
       let short = (reckoned c (consistent (systemOf s))) .month-most k in
       let least = (reckoned c (consistent (systemOf s))) .month-least k in
-      by-order 59 (nameIn s)
+      by-order 59 (nameField s)
       (λ far.
       Judged.refused 7 (omega arith) (sym (no-name _ _ _ _ _ m refl z far))
       (place-rows i w (inl (refl, name-not-placed kind k n (λ r p e. omega arith)))))
       (λ near.
       by-order days (m .length)
       (λ b.
-      let j = accept (head + days) (systemOf s) (yearIn s) (monthIn s) (leapIn s) (days + 1) in
-      let day-is : j .day + c .anchor ≡ dayOfMonth c k (days + 1) = omega arith in
-      let in-month : InMonth c k (j .day + c .anchor) = (omega arith, omega arith) in
-      let is-named : nameOf (j .day) ≡ nameIn s = omega arith in
+      let j = accept (head + days) (systemOf s) (yearField s) (monthField s) (leapField s) (days + 1) in
+      let day-is : j .day .0 + c .anchor ≡ dayOfMonth c k (days + 1) = omega arith in
+      let in-month : InMonth c k (j .day .0 + c .anchor) = (omega arith, omega arith) in
+      let is-named : nameOf (j .day .0) ≡ nameField s = omega arith in
       subst (Judged (contentRows s) s) (name-right _ _ _ _ _ m refl z near b)
-      (Judged.accepted refl (place-rows i w (inr (λ v. v (Placed.name-in-month kind k (j .day) n in-month is-named), refl)))
+      (Judged.accepted refl (place-rows i w (inr (λ v. v (Placed.name-in-month kind k (j .day .0) n in-month is-named), refl)))
       (record {
-        year = yearIn s;
-        month = monthIn s;
-        leap = leapIn s;
+        year = yearField s;
+        month = monthField s;
+        leap = leapField s;
         day = days + 1;
         dated = record { k = k; in-scope = i; named = n; placed = record { at-least = omega arith; at-most = omega arith }; day-is = day-is };
         stored = refl;
@@ -185,14 +186,14 @@ module _ (s : List ℕ) where
       }
 
   -- Kind 4.
-  day-out-of-scope : kindOf s ≡ 4 → (DayInScope (systemOf s) (registerDayIn s) → ⊥) → NotPlaced s
+  day-out-of-scope : kindOf s ≡ 4 → (DayInScope (systemOf s) (registerDayField s) → ⊥) → NotPlaced s
   day-out-of-scope e out (Placed.day-in-month f l o i) = omega arith
   day-out-of-scope e out (Placed.name-in-month f l r o i g) = omega arith
   day-out-of-scope e out (Placed.ordinal-in-year f y i) = omega arith
   day-out-of-scope e out (Placed.day-in-scope f d) = out d
 
-  register-day-judged-by : kindOf s ≡ 4 → (d : Date) → d ≡ dateOf (systemOf s) (registerDayIn s) → DateOutcome (systemOf s) (registerDayIn s) d
-      → Judged (contentRows s) s (judgeRegisterDay (systemOf s) (registerDayIn s))
+  register-day-judged-by : kindOf s ≡ 4 → (d : Date) → d ≡ dateOf (systemOf s) (registerDayField s) → DateOutcome (systemOf s) (registerDayField s) d
+      → Judged (contentRows s) s (judgeRegisterDay (systemOf s) (registerDayField s))
   register-day-judged-by kind d is (DateOutcome.system-refused w e) =
       Judged.refused 4 (omega arith) (sym (date-refused _ _ d is (λ z. omega (arith, ap (λ x. x .refusal) e))) ∙ ap (λ x. refuse (x .refusal)) e)
       (inl (refl, w))
@@ -203,13 +204,13 @@ module _ (s : List ℕ) where
       subst (Judged (contentRows s) s) (date-accepted _ _ d is z)
       (Judged.accepted refl
       (inr (λ v. v (i .system-inside), inr (λ v. omega (arith, v .0), inr (λ v. omega (arith, v .0), inr (λ v. v (Placed.day-in-scope kind scope), refl)))))
-      (kept-by-date (registerDayIn s) d (Names.by-register-day kind refl) i k n p e))
+      (kept-by-date (registerDayField s) d (Names.by-register-day kind refl) i k n p e))
 
-  pub register-day-judged : kindOf s ≡ 4 → Judged (contentRows s) s (judgeRegisterDay (systemOf s) (registerDayIn s))
-  register-day-judged kind = register-day-judged-by kind _ refl (date-outcome (systemOf s) (registerDayIn s))
+  pub register-day-judged : kindOf s ≡ 4 → Judged (contentRows s) s (judgeRegisterDay (systemOf s) (registerDayField s))
+  register-day-judged kind = register-day-judged-by kind _ refl (date-outcome (systemOf s) (registerDayField s))
 
   -- Kind 3.
-  ordinal-not-placed : kindOf s ≡ 3 → (y : Span c (elapsedIn s)) → (Inside 1 (yearLength y) (ordinalIn s) → ⊥) → NotPlaced s
+  ordinal-not-placed : kindOf s ≡ 3 → (y : Span c (elapsedIn s)) → (Inside 1 (yearLength y) (ordinalField s) → ⊥) → NotPlaced s
   ordinal-not-placed e y out (Placed.day-in-month f l o i) = omega arith
   ordinal-not-placed e y out (Placed.name-in-month f l r o i g) = omega arith
   ordinal-not-placed e y out (Placed.ordinal-in-year f x i) =
@@ -227,8 +228,8 @@ module _ (s : List ℕ) where
   on-ordinal-judged r kind names scope d is (DateOutcome.found i p k n z m e) rows =
       subst (Judged (contentRows s) s) (date-accepted _ _ d is z) (Judged.accepted refl rows (kept-by-date r d names i k n m e))
 
-  ordinal-judged-by : kindOf s ≡ 3 → (y : Days) → y ≡ daysOf (systemOf s) (yearIn s) → DaysOutcome (systemOf s) (yearIn s) y
-      → Judged (contentRows s) s (judgeOrdinal (systemOf s) (yearIn s) (ordinalIn s))
+  ordinal-judged-by : kindOf s ≡ 3 → (y : Days) → y ≡ daysOf (systemOf s) (yearField s) → DaysOutcome (systemOf s) (yearField s) y
+      → Judged (contentRows s) s (judgeOrdinal (systemOf s) (yearField s) (ordinalField s))
   ordinal-judged-by kind y is (DaysOutcome.system-refused w e) =
       Judged.refused 4 (omega arith) (sym (year-refused _ _ _ y is (λ z. omega (arith, ap (λ x. x .refusal) e))) ∙ ap (λ x. refuse (x .refusal)) e)
       (inl (refl, w))
@@ -236,19 +237,19 @@ module _ (s : List ℕ) where
       Judged.refused 5 (omega arith) (sym (year-refused _ _ _ y is (λ z. omega (arith, ap (λ x. x .refusal) e))) ∙ ap (λ x. refuse (x .refusal)) e)
       (inr (λ v. v i, inl (refl, (omega arith, w))))
   ordinal-judged-by kind y is (DaysOutcome.found i span-of z h l) =
-      by-inside 1 (y .length) (ordinalIn s)
+      by-inside 1 (y .length) (ordinalField s)
       (λ e out.
       Judged.refused 7 (omega arith) (sym (ordinal-wrong _ _ _ y is z e))
-      (place-rows i (λ v. omega (arith, v .0)) (inl (refl, ordinal-not-placed kind span-of (λ p. out (subst (λ x. Inside 1 x (ordinalIn s)) (sym l) p))))))
+      (place-rows i (λ v. omega (arith, v .0)) (inl (refl, ordinal-not-placed kind span-of (λ p. out (subst (λ x. Inside 1 x (ordinalField s)) (sym l) p))))))
       (λ e into.
-      let inside = subst (λ x. Inside 1 x (ordinalIn s)) l into in
-      let r = y .head .0 + ordinalIn s - 1 in
-      let day-is : r + c .anchor ≡ dayOfOrdinal span-of (ordinalIn s) = omega (arith, into) in
+      let inside = subst (λ x. Inside 1 x (ordinalField s)) l into in
+      let r = y .head .0 + ordinalField s - 1 in
+      let day-is : r + c .anchor ≡ dayOfOrdinal span-of (ordinalField s) = omega (arith, into) in
       subst (Judged (contentRows s) s) (ordinal-right _ _ _ y is z e)
       (on-ordinal-judged r kind (Names.by-ordinal kind span-of day-is)
-      (year-day-in-scope (systemOf s) (yearIn s) r i span-of (omega (arith, into)) (omega (arith, inside)))
+      (year-day-in-scope (systemOf s) (yearField s) r i span-of (omega (arith, into)) (omega (arith, inside)))
       _ refl (date-outcome (systemOf s) r)
       (place-rows i (λ v. omega (arith, v .0)) (inr (λ v. v (Placed.ordinal-in-year kind span-of inside), refl)))))
 
-  pub ordinal-judged : kindOf s ≡ 3 → Judged (contentRows s) s (judgeOrdinal (systemOf s) (yearIn s) (ordinalIn s))
-  ordinal-judged kind = ordinal-judged-by kind _ refl (days-outcome (systemOf s) (yearIn s))
+  pub ordinal-judged : kindOf s ≡ 3 → Judged (contentRows s) s (judgeOrdinal (systemOf s) (yearField s) (ordinalField s))
+  ordinal-judged kind = ordinal-judged-by kind _ refl (days-outcome (systemOf s) (yearField s))

@@ -7,7 +7,7 @@ use native.Mathlib.Omega.{arith}
 use lib.ListN.{length}
 use Rattle.reckoning.proofs.Refusals.{inside-of}
 use Rattle.calendar.proofs.Rising.{by-order}
-use Rattle.citation.specs.Record.{lengthField, kindOf, systemOf, kindLength, yearIn, monthIn, leapIn, dayIn, nameIn, ordinalIn, registerDayIn}
+use Rattle.citation.specs.Record.{lengthField, kindOf, systemOf, kindLength, yearField, monthField, leapField, dayField, nameField, ordinalField, registerDayField}
 use Rattle.citation.specs.Judged.{Whole}
 use lib.Dec.{ltb, leb}
 use borrow.Author.Tests.{eq-eqb, ne-eqb, lt-ltb, le-ltb, le-leb, lt-leb}
@@ -19,7 +19,7 @@ use Rattle.reckoning.specs.Requests.{daysOf, monthOf, dateOf}
 use Rattle.citation.specs.declared.judge.Judgement.{Judgement}
 use Rattle.citation.specs.Store.{refuse, accept, unlessRefused, unlessWrong, judgeDate, judgeRegisterDay, judgeInYear, judgeOrdinal, judgeInMonth, judgeDay, judgeNameInMonth, judgeName, daysToName, judgeKind, judgeOf}
 
--- One law for every kind.
+-- ExactlyOne law for every kind.
 module _ (refusal : ℕ) (wrong : Bool) (j : Judgement) where
   refused-by : (refusal ≡ 0 → ⊥) → refuse refusal ≡ unlessRefused refusal j
   refused-by h = simp (ne-eqb refusal 0 h)
@@ -115,19 +115,19 @@ module _ (system year month leap name : ℕ) (m : Month) (e : m ≡ monthOf syst
 
 -- Which judgement a kind gets.
 module _ (s : List ℕ) where
-  pub kind-one : kindOf s ≡ 1 → judgeDay (systemOf s) (yearIn s) (monthIn s) (leapIn s) (dayIn s) ≡ judgeKind s
+  pub kind-one : kindOf s ≡ 1 → judgeDay (systemOf s) (yearField s) (monthField s) (leapField s) (dayField s) ≡ judgeKind s
   unfolding judgeKind
   kind-one e = simp (eq-eqb (kindOf s) 1 e)
 
-  pub kind-two : kindOf s ≡ 2 → judgeName (systemOf s) (yearIn s) (monthIn s) (leapIn s) (nameIn s) ≡ judgeKind s
+  pub kind-two : kindOf s ≡ 2 → judgeName (systemOf s) (yearField s) (monthField s) (leapField s) (nameField s) ≡ judgeKind s
   unfolding judgeKind
   kind-two e = simp (ne-eqb (kindOf s) 1 (omega arith), eq-eqb (kindOf s) 2 e)
 
-  pub kind-three : kindOf s ≡ 3 → judgeOrdinal (systemOf s) (yearIn s) (ordinalIn s) ≡ judgeKind s
+  pub kind-three : kindOf s ≡ 3 → judgeOrdinal (systemOf s) (yearField s) (ordinalField s) ≡ judgeKind s
   unfolding judgeKind
   kind-three e = simp (ne-eqb (kindOf s) 1 (omega arith), ne-eqb (kindOf s) 2 (omega arith), eq-eqb (kindOf s) 3 e)
 
-  pub kind-four : kindOf s ≡ 4 → judgeRegisterDay (systemOf s) (registerDayIn s) ≡ judgeKind s
+  pub kind-four : kindOf s ≡ 4 → judgeRegisterDay (systemOf s) (registerDayField s) ≡ judgeKind s
   unfolding judgeKind
   kind-four e = simp (ne-eqb (kindOf s) 1 (omega arith), ne-eqb (kindOf s) 2 (omega arith), ne-eqb (kindOf s) 3 (omega arith))
 

@@ -15,9 +15,10 @@ use Rattle.reckoning.specs.Requests.{dateOf}
 use Rattle.reckoning.specs.Outcomes.{DateOutcome}
 use Rattle.reckoning.proofs.Refusals.{by-inside}
 use Rattle.reckoning.proofs.Outcomes.{date-outcome, year-day-in-scope}
-use Rattle.citation.specs.Record.{byte, Bytes, lengthField, kindOf, kindLength, systemOf, yearIn, monthIn, leapIn, dayIn, recordOf}
-use Rattle.citation.specs.Named.{constantsIn, elapsedIn, MonthIn, Names, OnDate}
-use Rattle.citation.specs.Refused.{Row, FirstOf, _when_, Accepted, citationRows, TooShort, WrongKind, WrongLength, WrongSystem, WrongYear, WrongMonth, NotPlaced}
+use Rattle.citation.specs.Record.{byte, Bytes, lengthField, kindOf, kindLength, systemOf, yearField, monthField, leapField, dayField, recordOf}
+use Rattle.citation.specs.Named.{constantsIn, elapsedIn, CitedMonth, Names, OnDate}
+use Rattle.reckoning.specs.Rows.{Row, FirstOf, _when_}
+use Rattle.citation.specs.Refused.{Accepted, citationRows, TooShort, WrongKind, WrongLength, WrongSystem, WrongYear, WrongMonth, NotPlaced}
 use Rattle.citation.proofs.Rows.{none-applies}
 use Rattle.citation.proofs.Judged.{day-not-placed}
 use Rattle.citation.proofs.OneDate.{record-unique}
@@ -54,7 +55,7 @@ module _ (b : List ℕ) (a : Accepted b) (kind : kindOf b ≡ 1) where
       (λ f. absurd (rightly b a .length-right (λ p. f (p .0))))
 
   -- it is the record of what it says
-  pub record-of-fields : Bytes b → b ≡ recordOf (systemOf b) (yearIn b) (monthIn b) (leapIn b) (dayIn b)
+  pub record-of-fields : Bytes b → b ≡ recordOf (systemOf b) (yearField b) (monthField b) (leapField b) (dayField b)
   unfolding elements
   record-of-fields bytes =
       let l = ten-long in
@@ -62,27 +63,27 @@ module _ (b : List ℕ) (a : Accepted b) (kind : kindOf b ≡ 1) where
       let e1 : byte b 1 ≡ 0 = omega arith in
       let e2 : byte b 2 ≡ 1 = omega arith in
       let e3 : byte b 3 ≡ 0 = omega arith in
-      let e5 : byte b 5 ≡ yearIn b % 256 = omega (arith, bytes 5) in
-      let e6 : byte b 6 ≡ yearIn b / 256 = omega (arith, bytes 5) in
+      let e5 : byte b 5 ≡ yearField b % 256 = omega (arith, bytes 5) in
+      let e6 : byte b 6 ≡ yearField b / 256 = omega (arith, bytes 5) in
       elements-all b 10 (sym (l .1))
-      ∙ (λ i. e0 i ∷ e1 i ∷ e2 i ∷ e3 i ∷ systemOf b ∷ e5 i ∷ e6 i ∷ monthIn b ∷ leapIn b ∷ dayIn b ∷ [])
+      ∙ (λ i. e0 i ∷ e1 i ∷ e2 i ∷ e3 i ∷ systemOf b ∷ e5 i ∷ e6 i ∷ monthField b ∷ leapField b ∷ dayField b ∷ [])
 
-  in-scope : InScope (systemOf b) (yearIn b)
+  in-scope : InScope (systemOf b) (yearField b)
   in-scope =
       record {
         system-inside = by-inside 1 2 (systemOf b) (λ e out. absurd (rightly b a .system-right out)) (λ e into. into);
-        year-inside = by-inside 1 3000 (yearIn b) (λ e out. absurd (rightly b a .year-right (omega arith, out))) (λ e into. into);
+        year-inside = by-inside 1 3000 (yearField b) (λ e out. absurd (rightly b a .year-right (omega arith, out))) (λ e into. into);
       }
 
   -- the day that it names is on the date that it says
-  pub on-its-date : (r : ℕ) → Names b r → OnDate (systemOf b) r (yearIn b) (monthIn b) (leapIn b) (dayIn b)
+  pub on-its-date : (r : ℕ) → Names b r → OnDate (systemOf b) r (yearField b) (monthField b) (leapField b) (dayField b)
   on-its-date r (Names.by-day e k m d) =
       record {
         k = k;
         in-scope = in-scope;
         named = m;
         placed =
-            by-inside 1 (monthLength (constantsIn b) k) (dayIn b)
+            by-inside 1 (monthLength (constantsIn b) k) (dayField b)
             (λ f out. absurd (rightly b a .place-right (day-not-placed b kind k m out)))
             (λ f into. into);
         day-is = d;

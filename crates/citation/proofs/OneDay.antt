@@ -12,8 +12,8 @@ use Rattle.calendar.proofs.EachSystem.{consistent}
 use Rattle.calendar.proofs.Reckoned.{reckoned}
 use Rattle.calendar.proofs.Spans.{span-first}
 use Rattle.calendar.proofs.Laws.{named-unique}
-use Rattle.citation.specs.Record.{kindOf, systemOf, monthIn, leapIn, dayIn, ordinalIn}
-use Rattle.citation.specs.Named.{constantsIn, elapsedIn, MonthIn, Names}
+use Rattle.citation.specs.Record.{kindOf, systemOf, monthField, leapField, dayField, ordinalField}
+use Rattle.citation.specs.Named.{constantsIn, elapsedIn, CitedMonth, Names}
 
 module _ (s : List ℕ) where
   abbrev c : Constants
@@ -22,8 +22,8 @@ module _ (s : List ℕ) where
   abbrev ok : Consistent c
   ok = consistent (systemOf s)
 
-  pub month-once : (k l : ℕ) → MonthIn s k → MonthIn s l → k ≡ l
-  month-once k l m o = named-unique c ok (elapsedIn s) (monthIn s) (leapIn s) k l m o
+  pub month-once : (k l : ℕ) → CitedMonth s k → CitedMonth s l → k ≡ l
+  month-once k l m o = named-unique c ok (elapsedIn s) (monthField s) (leapField s) k l m o
 
   -- within a month no name comes twice, of register days too
   name-once : (k r q : ℕ) → InMonth c k (r + c .anchor) → InMonth c k (q + c .anchor) → nameOf r ≡ nameOf q → r ≡ q

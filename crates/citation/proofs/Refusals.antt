@@ -13,7 +13,8 @@ use Rattle.reckoning.specs.Refusal.{outside}
 use Rattle.reckoning.proofs.Refusals.{by-inside}
 use Rattle.citation.specs.declared.judge.Judgement.{Judgement}
 use Rattle.citation.specs.Record.{lengthField, kindOf, kindLength}
-use Rattle.citation.specs.Refused.{FirstOf, TooShort, WrongKind, WrongLength, NoRoom, _when_, contentRows, citationRows, storingRows}
+use Rattle.reckoning.specs.Rows.{FirstOf, _when_}
+use Rattle.citation.specs.Refused.{TooShort, WrongKind, WrongLength, NoRoom, contentRows, citationRows, storingRows}
 use Rattle.citation.specs.Store.{judgeKind, judgeOf, refusalOf}
 use Rattle.citation.proofs.Rows.{first-unique, first-before, first-after, Numbered}
 use Rattle.citation.proofs.Judgements.{kind-one, kind-two, kind-three, kind-four, too-short, wrong-kind, wrong-field, wrong-size, right-size}

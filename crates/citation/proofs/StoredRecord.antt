@@ -11,8 +11,8 @@ use Rattle.calendar.specs.Systems.{constantsOf, yearsElapsed}
 use Rattle.calendar.specs.Year.{MonthNamed, HasLeap}
 use Rattle.calendar.proofs.EachSystem.{consistent}
 use Rattle.calendar.proofs.Laws.{number-inside, mark-inside}
-use Rattle.citation.specs.Record.{kindOf, yearIn, recordOf}
-use Rattle.citation.specs.Named.{elapsedIn, MonthIn, Names, OnDate}
+use Rattle.citation.specs.Record.{kindOf, yearField, recordOf}
+use Rattle.citation.specs.Named.{elapsedIn, CitedMonth, Names, OnDate}
 use Rattle.citation.specs.Refused.{Accepted, WrongMonth, Placed}
 
 module _ (system r year month leap day : ℕ) (d : OnDate system r year month leap day) where
@@ -26,10 +26,10 @@ module _ (system r year month leap day : ℕ) (d : OnDate system r year month le
   rec = recordOf system year month leap day
 
   -- the two bytes of the year are read back as the year
-  year-read : yearIn rec ≡ year
+  year-read : yearField rec ≡ year
   year-read = omega arith
 
-  month-read : MonthIn rec (d .k)
+  month-read : CitedMonth rec (d .k)
   month-read = subst (λ y. MonthNamed c (yearsElapsed c y) month leap (d .k)) (sym year-read) (d .named)
 
   month-right : WrongMonth rec → ⊥

@@ -37,9 +37,9 @@ module _ (s : List ℕ) (number : ℕ) (some : number ≡ 0 → ⊥) where
 
 -- Accepted, the answer is the day, and the record stands in the first ten bytes.
 module _ (s : List ℕ) (j : Judgement) (e : j ≡ judgeOf s) where
-  pub answer-accepted : (room : ℕ) → refusalOf s room ≡ 0 → j .day ≡ answerOf s room
+  pub answer-accepted : (room : ℕ) → refusalOf s room ≡ 0 → j .day .0 ≡ answerOf s room
   unfolding answerOf
-  answer-accepted room r = rw r (omega (arith, ap (λ x. x .day) e))
+  answer-accepted room r = rw r (omega (arith, ap (λ x. x .day .0) e))
 
   pub output-accepted : (before : List ℕ) → refusalOf s (length before) ≡ 0 → j .stored ++ drop 10 before ≡ storedInto s before
   unfolding storedInto

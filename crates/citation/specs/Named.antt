@@ -10,30 +10,30 @@ use Rattle.calendar.specs.Name.{nameOf}
 use Rattle.calendar.specs.Month.{InMonth, monthLength, dayOfMonth}
 use Rattle.calendar.specs.Year.{Span, MonthNamed, dayOfOrdinal}
 use Rattle.reckoning.specs.Scope.{InScope}
-use Rattle.citation.specs.Record.{kindOf, systemOf, yearIn, monthIn, leapIn, dayIn, nameIn, ordinalIn, registerDayIn}
+use Rattle.citation.specs.Record.{kindOf, systemOf, yearField, monthField, leapField, dayField, nameField, ordinalField, registerDayField}
 
 -- The constants of its system, and its year told by years elapsed.
 abbrev pub constantsIn : List ℕ → Constants
 constantsIn s = constantsOf (systemOf s)
 
 abbrev pub elapsedIn : List ℕ → ℕ
-elapsedIn s = yearsElapsed (constantsIn s) (yearIn s)
+elapsedIn s = yearsElapsed (constantsIn s) (yearField s)
 
 -- The month of kinds 1 and 2: that of the year with the number, the leap one where the leap byte is 1 and the other
 -- where it is 0.
-abbrev pub MonthIn : List ℕ → ℕ → Type 0
-MonthIn s k = MonthNamed (constantsIn s) (elapsedIn s) (monthIn s) (leapIn s) k
+abbrev pub CitedMonth : List ℕ → ℕ → Type 0
+CitedMonth s k = MonthNamed (constantsIn s) (elapsedIn s) (monthField s) (leapField s) k
 
 -- Citation s names register day r.
 pub data Names (s : List ℕ) (r : ℕ) : Type 0 where
   -- kind 1: the head of its month plus the day of the month less 1
-  by-day : kindOf s ≡ 1 → (k : ℕ) → MonthIn s k → r + constantsIn s .anchor ≡ dayOfMonth (constantsIn s) k (dayIn s) → Names s r
+  by-day : kindOf s ≡ 1 → (k : ℕ) → CitedMonth s k → r + constantsIn s .anchor ≡ dayOfMonth (constantsIn s) k (dayField s) → Names s r
   -- kind 2: the day of its month that bears the name
-  by-name : kindOf s ≡ 2 → (k : ℕ) → MonthIn s k → InMonth (constantsIn s) k (r + constantsIn s .anchor) → nameOf r ≡ nameIn s → Names s r
+  by-name : kindOf s ≡ 2 → (k : ℕ) → CitedMonth s k → InMonth (constantsIn s) k (r + constantsIn s .anchor) → nameOf r ≡ nameField s → Names s r
   -- kind 3: the head of its year plus the ordinal less 1
-  by-ordinal : kindOf s ≡ 3 → (y : Span (constantsIn s) (elapsedIn s)) → r + constantsIn s .anchor ≡ dayOfOrdinal y (ordinalIn s) → Names s r
+  by-ordinal : kindOf s ≡ 3 → (y : Span (constantsIn s) (elapsedIn s)) → r + constantsIn s .anchor ≡ dayOfOrdinal y (ordinalField s) → Names s r
   -- kind 4: the register day written in it
-  by-register-day : kindOf s ≡ 4 → r ≡ registerDayIn s → Names s r
+  by-register-day : kindOf s ≡ 4 → r ≡ registerDayField s → Names s r
 
 -- Register day r is, in a system, day `day` of the month with a number and a leap mark of a year in scope.
 pub record OnDate (system r year month leap day : ℕ) : Type 0 where

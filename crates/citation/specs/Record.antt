@@ -9,11 +9,11 @@ use lib.ListN.{getD}
 abbrev pub byte : List ℕ → ℕ → ℕ
 byte s i = getD s i 0
 
-abbrev pub two : List ℕ → ℕ → ℕ
-two s i = byte s i + 256 * byte s (i + 1)
+abbrev pub le16 : List ℕ → ℕ → ℕ
+le16 s i = byte s i + 256 * byte s (i + 1)
 
-abbrev pub four : List ℕ → ℕ → ℕ
-four s i = two s i + 65_536 * two s (i + 2)
+abbrev pub le32 : List ℕ → ℕ → ℕ
+le32 s i = le16 s i + 65_536 * le16 s (i + 2)
 
 -- Every element of a list is a byte.
 abbrev pub Bytes : List ℕ → Type 0
@@ -21,10 +21,10 @@ Bytes s = (i : ℕ) → byte s i < 256
 
 -- Bytes 0 and 1: the length of the whole record. Bytes 2 and 3: the kind. Byte 4: the system.
 abbrev pub lengthField : List ℕ → ℕ
-lengthField s = two s 0
+lengthField s = le16 s 0
 
 abbrev pub kindOf : List ℕ → ℕ
-kindOf s = two s 2
+kindOf s = le16 s 2
 
 abbrev pub systemOf : List ℕ → ℕ
 systemOf s = byte s 4
@@ -34,29 +34,29 @@ abbrev pub kindLength : ℕ → ℕ
 kindLength kind = cond (leb kind 2) 10 9
 
 -- Kinds 1, 2 and 3: the year after byte 4.
-abbrev pub yearIn : List ℕ → ℕ
-yearIn s = two s 5
+abbrev pub yearField : List ℕ → ℕ
+yearField s = le16 s 5
 
 -- Kinds 1 and 2: then the month, the leap mark, and the day of the month (kind 1) or the name (kind 2).
-abbrev pub monthIn : List ℕ → ℕ
-monthIn s = byte s 7
+abbrev pub monthField : List ℕ → ℕ
+monthField s = byte s 7
 
-abbrev pub leapIn : List ℕ → ℕ
-leapIn s = byte s 8
+abbrev pub leapField : List ℕ → ℕ
+leapField s = byte s 8
 
-abbrev pub dayIn : List ℕ → ℕ
-dayIn s = byte s 9
+abbrev pub dayField : List ℕ → ℕ
+dayField s = byte s 9
 
-abbrev pub nameIn : List ℕ → ℕ
-nameIn s = byte s 9
+abbrev pub nameField : List ℕ → ℕ
+nameField s = byte s 9
 
 -- Kind 3: then the ordinal.
-abbrev pub ordinalIn : List ℕ → ℕ
-ordinalIn s = two s 7
+abbrev pub ordinalField : List ℕ → ℕ
+ordinalField s = le16 s 7
 
 -- Kind 4: the register day after byte 4.
-abbrev pub registerDayIn : List ℕ → ℕ
-registerDayIn s = four s 5
+abbrev pub registerDayField : List ℕ → ℕ
+registerDayField s = le32 s 5
 
 -- The kind 1 record of a date.
 abbrev pub recordOf : ℕ → ℕ → ℕ → ℕ → ℕ → List ℕ

@@ -8,9 +8,10 @@ use Rattle.calendar.specs.Inside.{Inside}
 use Rattle.calendar.specs.Name.{nameOf}
 use Rattle.calendar.specs.Month.{InMonth, monthLength}
 use Rattle.calendar.specs.Year.{Span, yearLength, HasLeap}
+use Rattle.reckoning.specs.Rows.{Row, _when_, FirstOf}
 use Rattle.reckoning.specs.Outcomes.{DayInScope}
-use Rattle.citation.specs.Record.{lengthField, kindOf, systemOf, kindLength, yearIn, monthIn, leapIn, dayIn, nameIn, ordinalIn, registerDayIn}
-use Rattle.citation.specs.Named.{constantsIn, elapsedIn, MonthIn}
+use Rattle.citation.specs.Record.{lengthField, kindOf, systemOf, kindLength, yearField, monthField, leapField, dayField, nameField, ordinalField, registerDayField}
+use Rattle.citation.specs.Named.{constantsIn, elapsedIn, CitedMonth}
 
 -- 1: input has fewer than 4 bytes.
 abbrev pub TooShort : List ℕ → Type 0
@@ -30,20 +31,20 @@ WrongSystem s = Inside 1 2 (systemOf s) → ⊥
 
 -- 5: year is not 1 to 3000 (kinds 1, 2, 3).
 abbrev pub WrongYear : List ℕ → Type 0
-WrongYear s = (kindOf s ≤ 3) × (Inside 1 3000 (yearIn s) → ⊥)
+WrongYear s = (kindOf s ≤ 3) × (Inside 1 3000 (yearField s) → ⊥)
 
 -- 6: month not 1 to 12, or leap not 0 or 1, or leap is 1 and that month of that year is not leap (kinds 1, 2).
 abbrev pub WrongMonth : List ℕ → Type 0
 WrongMonth s =
     (kindOf s ≤ 2)
-    × ((Inside 1 12 (monthIn s) → ⊥) ⊎ ((Inside 0 1 (leapIn s) → ⊥) ⊎ ((leapIn s ≡ 1) × (HasLeap (constantsIn s) (elapsedIn s) (monthIn s) → ⊥))))
+    × ((Inside 1 12 (monthField s) → ⊥) ⊎ ((Inside 0 1 (leapField s) → ⊥) ⊎ ((leapField s ≡ 1) × (HasLeap (constantsIn s) (elapsedIn s) (monthField s) → ⊥))))
 
 -- The day, name or ordinal is in the month or year named, or the register day is one of years 1 to 3000.
 pub data Placed (s : List ℕ) : Type 0 where
-  day-in-month : kindOf s ≡ 1 → (k : ℕ) → MonthIn s k → Inside 1 (monthLength (constantsIn s) k) (dayIn s) → Placed s
-  name-in-month : kindOf s ≡ 2 → (k r : ℕ) → MonthIn s k → InMonth (constantsIn s) k (r + constantsIn s .anchor) → nameOf r ≡ nameIn s → Placed s
-  ordinal-in-year : kindOf s ≡ 3 → (y : Span (constantsIn s) (elapsedIn s)) → Inside 1 (yearLength y) (ordinalIn s) → Placed s
-  day-in-scope : kindOf s ≡ 4 → DayInScope (systemOf s) (registerDayIn s) → Placed s
+  day-in-month : kindOf s ≡ 1 → (k : ℕ) → CitedMonth s k → Inside 1 (monthLength (constantsIn s) k) (dayField s) → Placed s
+  name-in-month : kindOf s ≡ 2 → (k r : ℕ) → CitedMonth s k → InMonth (constantsIn s) k (r + constantsIn s .anchor) → nameOf r ≡ nameField s → Placed s
+  ordinal-in-year : kindOf s ≡ 3 → (y : Span (constantsIn s) (elapsedIn s)) → Inside 1 (yearLength y) (ordinalField s) → Placed s
+  day-in-scope : kindOf s ≡ 4 → DayInScope (systemOf s) (registerDayField s) → Placed s
 
 -- 7: it is not.
 abbrev pub NotPlaced : List ℕ → Type 0
@@ -52,17 +53,6 @@ NotPlaced s = Placed s → ⊥
 -- 8: output has fewer than 10 bytes.
 abbrev pub NoRoom : ℕ → Type 0
 NoRoom room = room < 10
-
-infixl 80 _when_
--- A row of the table: a refusal's number, and what makes it apply.
-pub data Row : Type 1 where
-  _when_ : ℕ → Type 0 → Row
-
--- The number of the first row that applies, and 0 where none does.
-abbrev pub FirstOf : List Row → ℕ → Type 0
-FirstOf [] number = number ≡ 0
-FirstOf ((refusal when applies) ∷ rows) number =
-    ((number ≡ refusal) × applies) ⊎ ((applies → ⊥) × FirstOf rows number)
 
 -- The rows that judge a citation by its bytes: whether it is a record at all, then what it says,
 abbrev pub contentRows : List ℕ → List Row

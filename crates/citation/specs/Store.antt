@@ -6,19 +6,19 @@ use lib.Dec.{ltb, leb, eqb}
 use lib.ListN.{length, replicate, drop}
 use Rattle.calendar.specs.Name.{nameOf}
 use Rattle.reckoning.specs.Refusal.{outside}
-use Rattle.reckoning.specs.Requests.{daysOf, monthOf, dateOf}
+use Rattle.reckoning.specs.Requests.{asRegisterDay, daysOf, monthOf, dateOf}
 use Rattle.reckoning.specs.declared.data.Days.{Days}
 use Rattle.reckoning.specs.declared.data.Month.{Month}
 use Rattle.reckoning.specs.declared.data.Date.{Date}
 use Rattle.citation.specs.declared.judge.Judgement.{Judgement}
-use Rattle.citation.specs.Record.{lengthField, kindOf, systemOf, kindLength, yearIn, monthIn, leapIn, dayIn, nameIn, ordinalIn, registerDayIn, recordOf}
+use Rattle.citation.specs.Record.{lengthField, kindOf, systemOf, kindLength, yearField, monthField, leapField, dayField, nameField, ordinalField, registerDayField, recordOf}
 
 -- A citation's judgement: its refusal number, or 0 with the day that it names and its stored record.
 abbrev pub refuse : ℕ → Judgement
-refuse refusal = record { refusal = refusal; day = 0; stored = replicate 10 0 }
+refuse refusal = record { refusal = refusal; day = asRegisterDay 0; stored = replicate 10 0 }
 
 abbrev pub accept : ℕ → ℕ → ℕ → ℕ → ℕ → ℕ → Judgement
-accept r system year month leap day = record { refusal = 0; day = r; stored = recordOf system year month leap day }
+accept r system year month leap day = record { refusal = 0; day = asRegisterDay r; stored = recordOf system year month leap day }
 
 -- Refused as the reckoning refuses, and judged otherwise.
 abbrev pub unlessRefused : ℕ → Judgement → Judgement
@@ -74,12 +74,12 @@ lengthWrong s = not (eqb (lengthField s) (kindLength (kindOf s)) && eqb (length 
 unfoldable pub judgeKind : List ℕ → Judgement
 judgeKind s =
     cond (eqb (kindOf s) 1)
-    (judgeDay (systemOf s) (yearIn s) (monthIn s) (leapIn s) (dayIn s))
+    (judgeDay (systemOf s) (yearField s) (monthField s) (leapField s) (dayField s))
     (cond (eqb (kindOf s) 2)
-    (judgeName (systemOf s) (yearIn s) (monthIn s) (leapIn s) (nameIn s))
+    (judgeName (systemOf s) (yearField s) (monthField s) (leapField s) (nameField s))
     (cond (eqb (kindOf s) 3)
-    (judgeOrdinal (systemOf s) (yearIn s) (ordinalIn s))
-    (judgeRegisterDay (systemOf s) (registerDayIn s))))
+    (judgeOrdinal (systemOf s) (yearField s) (ordinalField s))
+    (judgeRegisterDay (systemOf s) (registerDayField s))))
 
 unfoldable pub judgeOf : List ℕ → Judgement
 judgeOf s =
@@ -97,7 +97,7 @@ refusalOf s room = cond (eqb ((judgeOf s) .refusal) 0) (cond (ltb room 10) 8 0) 
 
 -- The answer: the register day, 0 where refused, plus 2^32 times the refusal number.
 unfoldable pub answerOf : List ℕ → ℕ → ℕ
-answerOf s room = cond (eqb (refusalOf s room) 0) ((judgeOf s) .day) 0 + 2 ^ 32 * refusalOf s room
+answerOf s room = cond (eqb (refusalOf s room) 0) ((judgeOf s) .day .0) 0 + 2 ^ 32 * refusalOf s room
 
 -- The output afterwards: the stored record in the first ten bytes and the rest left; where refused, as it was.
 unfoldable pub storedInto : List ℕ → List ℕ → List ℕ

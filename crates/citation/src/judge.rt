@@ -15,7 +15,7 @@ use reckoning::refusal::outside;
 // `refusal` is 0 when the citation is accepted; refused, day and record are zeros.
 pub struct Judgement {
     pub refusal: u8,
-    pub day: u32,
+    pub day: RegisterDay,
     pub stored: [u8; 10],
 }
 
@@ -24,7 +24,7 @@ fn refuse(refusal: u8) -> Judgement
 {
     Judgement {
         refusal: refusal,
-        day: 0,
+        day: RegisterDay(0),
         stored: [0u8; 10],
     }
 }
@@ -35,7 +35,7 @@ fn accept(r: u32, system: u32, year: u32, month: u32, leap: u32, day: u32) -> Ju
 {
     Judgement {
         refusal: 0,
-        day: r,
+        day: RegisterDay(r),
         stored: [
             10,
             0,

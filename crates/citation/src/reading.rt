@@ -2,7 +2,7 @@
 ghost use mathlib.Core.Path.{_≡_};
 ghost use Prim.Native.Nat.{_+_, _<_, _^_};
 ghost use lib.ListN.{length};
-ghost use Rattle.citation.specs.Record.{byte, two, four};
+ghost use Rattle.citation.specs.Record.{byte, le16, le32};
 
 fn wide(x: u8) -> u32
     ensures { λ r. ⌜ (r ≡ x) × (r < 256) ⌝ }
@@ -19,14 +19,14 @@ pub(crate) fn byte(s: &[u8], i: usize) -> u32
 
 pub(crate) fn two(s: &[u8], i: usize) -> u32
     requires { ⌜ i + 1 < length (now s) ⌝ }
-    ensures { λ r. ⌜ (r ≡ two (now (s .entry)) i) × (r < 2 ^ 16) ⌝ }
+    ensures { λ r. ⌜ (r ≡ le16 (now (s .entry)) i) × (r < 2 ^ 16) ⌝ }
 {
     byte(s, i) + 256 * byte(s, i + 1)
 }
 
 pub(crate) fn four(s: &[u8], i: usize) -> u32
     requires { ⌜ i + 3 < length (now s) ⌝ }
-    ensures { λ r. ⌜ (r ≡ four (now (s .entry)) i) × (r < 2 ^ 32) ⌝ }
+    ensures { λ r. ⌜ (r ≡ le32 (now (s .entry)) i) × (r < 2 ^ 32) ⌝ }
 {
     two(s, i) + 65_536 * two(s, i + 2)
 }

@@ -27,7 +27,7 @@ fn put(output: &mut [u8], stored: [u8; 10])
 // first ten bytes become its stored record, and the rest is left. Refused, the day is 0 and no byte changes.
 #[no_mangle]
 pub extern "C" fn chiselbrow_store(input: &[u8], output: &mut [u8]) -> u64
-    ensures { λ r. do ⌜ r ≡ answerOf (now (input .entry)) (← ⟦output.len()⟧ .entry) ⌝ }
+    ensures { λ r. ⌜ r ≡ answerOf (now (input .entry)) (length (now (output .entry))) ⌝ }
     ensures { λ _. ⌜ now (output .exit) ≡ storedInto (now (input .entry)) (now (output .entry)) ⌝ }
 {
     let j = judge(input);
@@ -40,5 +40,5 @@ pub extern "C" fn chiselbrow_store(input: &[u8], output: &mut [u8]) -> u64
     }
     let stored = j.stored;
     put(output, stored);
-    j.day as u64
+    j.day.0 as u64
 }

@@ -20,12 +20,12 @@ star-and-space leap both text e = ap (λ x. cond (eqb x 0) (32 ∷ []) (42 ∷ 3
 
 module _ (s : List ℕ) (j : Judgement) (e : j ≡ judgeOf s) where
   abbrev line-by : Judgement → List ℕ
-  line-by x = cond (eqb (x .refusal) 0) (dayLine (x .stored) (x .day)) (refusedLine (x .refusal))
+  line-by x = cond (eqb (x .refusal) 0) (dayLine (x .stored) (x .day .0)) (refusedLine (x .refusal))
 
   pub line-refused : (j .refusal ≡ 0 → ⊥) → refusedLine (j .refusal) ≡ lineOf s
   unfolding lineOf
   line-refused h = subst (λ x. refusedLine (j .refusal) ≡ line-by x) e (simp (ne-eqb (j .refusal) 0 h))
 
-  pub line-accepted : j .refusal ≡ 0 → dayLine (j .stored) (j .day) ≡ lineOf s
+  pub line-accepted : j .refusal ≡ 0 → dayLine (j .stored) (j .day .0) ≡ lineOf s
   unfolding lineOf
-  line-accepted h = subst (λ x. dayLine (j .stored) (j .day) ≡ line-by x) e (simp (eq-eqb (j .refusal) 0 h))
+  line-accepted h = subst (λ x. dayLine (j .stored) (j .day .0) ≡ line-by x) e (simp (eq-eqb (j .refusal) 0 h))

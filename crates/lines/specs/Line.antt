@@ -4,7 +4,7 @@ use mathlib.Core.Bool.{cond}
 use mathlib.Core.List.{List, [], _∷_, _++_}
 use lib.Dec.{eqb}
 use Rattle.calendar.specs.Name.{nameOf}
-use Rattle.citation.specs.Record.{systemOf, yearIn, monthIn, leapIn, dayIn}
+use Rattle.citation.specs.Record.{systemOf, yearField, monthField, leapField, dayField}
 use Rattle.citation.specs.declared.judge.Judgement.{Judgement}
 use Rattle.citation.specs.Store.{judgeOf}
 use Rattle.lines.specs.Decimal.{decimal}
@@ -27,7 +27,7 @@ star leap = cond (eqb leap 0) [] (42 ∷ [])
 -- A date by its stored record: letter, year, month, with '*' after it if leap, and day.
 abbrev pub dateText : List ℕ → List ℕ
 dateText s =
-    letter (systemOf s) ++ (field (yearIn s) ++ (field (monthIn s) ++ (star (leapIn s) ++ field (dayIn s))))
+    letter (systemOf s) ++ (field (yearField s) ++ (field (monthField s) ++ (star (leapField s) ++ field (dayField s))))
 
 -- The date, the register day and its name.
 abbrev pub dayLine : List ℕ → ℕ → List ℕ
@@ -40,4 +40,4 @@ refusedLine number = (114 ∷ 101 ∷ 102 ∷ 117 ∷ 115 ∷ 101 ∷ 100 ∷ []
 -- The line of a record.
 unfoldable pub lineOf : List ℕ → List ℕ
 lineOf s =
-    let j = judgeOf s in cond (eqb (j .refusal) 0) (dayLine (j .stored) (j .day)) (refusedLine (j .refusal))
+    let j = judgeOf s in cond (eqb (j .refusal) 0) (dayLine (j .stored) (j .day .0)) (refusedLine (j .refusal))

@@ -43,13 +43,13 @@ fn put_date(out: &mut [u8], start: usize, stored: [u8; 10]) -> usize
 }
 
 // The line of a day.
-fn put_day(out: &mut [u8], start: usize, stored: [u8; 10], day: u32) -> usize
+fn put_day(out: &mut [u8], start: usize, stored: [u8; 10], day: RegisterDay) -> usize
     requires { ⌜ start + 64 ≤ length (now out) ⌝ }
-    ensures { λ r. ⌜ Wrote (now (out .entry)) start (dayLine stored day) (now (out .exit)) r × (r ≤ start + 64) ⌝ }
+    ensures { λ r. ⌜ Wrote (now (out .entry)) start (dayLine stored (day .0)) (now (out .exit)) r × (r ≤ start + 64) ⌝ }
 {
     let at = put_date(out, start, stored);
-    let at = field(out, at, day);
-    let at = field(out, at, wide(reckoning::day_name(RegisterDay(day)).0));
+    let at = field(out, at, day.0);
+    let at = field(out, at, wide(reckoning::day_name(day).0));
     byte(out, at, b'\n')
 }
 

@@ -18,7 +18,7 @@ use Rattle.reckoning.specs.Asked.{askedOf}
 use Rattle.reckoning.specs.Filled.{filled}
 use Rattle.reckoning.specs.Room.{Reach}
 use Rattle.reckoning.specs.Requests.{solsticeIn, noSolstice, solsticeOf, qiIn, noQi, qiOf, nameAt, noNames, sheetIn, noSheet, sheetOf}
-use Rattle.reckoning.specs.Held.{HoldsSolstice, HoldsQi, HoldsSheet}
+use Rattle.reckoning.specs.Held.{IsSolstice, IsQi, IsSheet}
 use Rattle.reckoning.proofs.Fill.{filled-below, filled-past, filled-length}
 use Rattle.reckoning.proofs.Refusals.{in-scope, in-scope-qi}
 use Rattle.reckoning.proofs.Scope.{reach}
@@ -35,24 +35,24 @@ module _ (system year : ℕ) (s : InScope system year) where
   r : Reach c n
   r = reach system year (s .year-inside)
 
-  pub solstice-holds : HoldsSolstice c n (solsticeOf system year)
+  pub solstice-holds : IsSolstice c n (solsticeOf system year)
   unfolding solsticeOf
   solstice-holds =
-      subst (HoldsSolstice c n)
+      subst (IsSolstice c n)
       (answered solsticeIn noSolstice (askedOf (yearRefusal system year) system year) _ refl (in-scope system year s))
       (record { accepted = refl; day = omega (arith, r .solstice-day); remainder = refl })
 
-  pub qi-holds : (i : ℕ) → i ≤ 23 → HoldsQi c n i (qiOf system year i)
+  pub qi-holds : (i : ℕ) → i ≤ 23 → IsQi c n i (qiOf system year i)
   unfolding qiOf
   qi-holds i h =
       let t = told c (consistent system) (qi c n i) in
       let d = r .qi-day i h in
       let exact : registerDay c (dayOf c (qi c n i)) + c .anchor ≡ dayOf c (qi c n i) = omega (arith, d) in
-      subst (HoldsQi c n i)
+      subst (IsQi c n i)
       (answered (λ k m. qiIn k m i) noQi (askedOf (qiRefusal system year i) system year) _ refl (in-scope-qi system year i s h))
       (record { accepted = refl; moment = ap (λ d. (d * c .day + partsOf c (qi c n i)) * c .units + unitsOf c (qi c n i)) exact ∙ sym (t .whole); parts-below = t .parts-below; units-below = t .units-below })
 
-  pub sheet-holds : HoldsSheet c n (sheetOf system year)
+  pub sheet-holds : IsSheet c n (sheetOf system year)
   unfolding sheetOf sheetIn
   sheet-holds =
       let head = registerDay c (headOfYear c n) in
@@ -61,7 +61,7 @@ module _ (system year : ℕ) (s : InScope system year) where
       let b = next-head c n r in
       let whole : long ≡ headOfYear c (n + 1) - headOfYear c n = omega arith in
       let most : long ≤ 384 = register-length-most c n r in
-      subst (HoldsSheet c n)
+      subst (IsSheet c n)
       (answered sheetIn noSheet (askedOf (yearRefusal system year) system year) _ refl (in-scope system year s))
       (record {
         accepted = refl;

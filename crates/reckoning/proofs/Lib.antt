@@ -5,6 +5,8 @@ pub mod Refusals
 pub mod Scope
 -- How an answer follows from what was asked.
 pub mod Answers
+-- Direct requests are refused by their table.
+pub mod Blanks
 -- What the laws say of a year within the register.
 pub mod InReach
 -- The month of a year with a number and a leap mark.

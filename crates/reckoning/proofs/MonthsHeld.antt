@@ -5,7 +5,7 @@ use mathlib.Core.Logic.{_⊎_, inl, inr, ⊎-elim}
 use native.Mathlib.Omega.{arith}
 use lib.ListN.{getD}
 use Rattle.calendar.specs.declared.data.Constants.{Constants}
-use Rattle.calendar.specs.One.{One}
+use Rattle.calendar.specs.ExactlyOne.{ExactlyOne}
 use Rattle.calendar.specs.Systems.{constantsOf, yearsElapsed, registerDay}
 use Rattle.calendar.specs.Month.{monthHead, InMonth, Lacks, Bears, Marked}
 use Rattle.calendar.specs.Year.{Span, monthCount, InYear, DayOfYear}
@@ -24,8 +24,8 @@ use Rattle.reckoning.specs.Asked.{askedOf}
 use Rattle.reckoning.specs.Room.{Reach}
 use Rattle.reckoning.specs.Refusal.{yearRefusal}
 use Rattle.reckoning.specs.Requests.{asRegisterDay, headAt, numberAt, leapAt, noHeads, noMarks, monthsFrom, yearIn, noYear, yearOf}
-use Rattle.reckoning.specs.YearValue.{headIn, numberIn, leapIn, HoldsYear, Tiled}
-use Rattle.reckoning.proofs.Fill.{filled-below, filled-past, replicate-reads}
+use Rattle.reckoning.specs.YearValue.{headIn, numberIn, leapIn, ListsMonths, Tiled}
+use Rattle.reckoning.proofs.Fill.{filled-below, filled-past, filled-length, replicate-reads}
 use Rattle.reckoning.proofs.Refusals.{in-scope}
 use Rattle.reckoning.proofs.Scope.{reach}
 use Rattle.reckoning.proofs.Answers.{answered}
@@ -40,7 +40,7 @@ module _ (c : Constants) (n : ℕ) (r : Reach c n) where
       let e = filled-below (headAt c (firstMonth c n)) noHeads (asRegisterDay 0) (firstMonth c (n + 1) - firstMonth c n + 1) i (omega arith) (omega (arith, l .count-most)) in
       omega (arith, ap (λ d. d .0) e, l .head i h)
 
-  pub holds-year : HoldsYear c n (yearIn c n)
+  pub holds-year : ListsMonths c n (yearIn c n)
   unfolding monthsFrom
   holds-year =
       let ok = r .room .consistent in
@@ -49,6 +49,11 @@ module _ (c : Constants) (n : ℕ) (r : Reach c n) where
       let l = listed c n r in
       let e : f + m ≡ firstMonth c (n + 1) = omega (arith, count-least (reckoned c ok) n) in
       record {
+        accepted = refl;
+        places =
+          ( filled-length (headAt c f) noHeads (m + 1)
+          , filled-length (numberAt c f) noMarks m
+          , filled-length (leapAt c f) noMarks m );
         span = span c ok n;
         count = refl;
         head = λ i h. head-at i (omega arith);
@@ -61,7 +66,7 @@ module _ (c : Constants) (n : ℕ) (r : Reach c n) where
       }
 
 -- A value that holds the months of a year is tiled by them.
-module _ (c : Constants) (ok : Consistent c) (n : ℕ) (v : Year) (y : HoldsYear c n v) where
+module _ (c : Constants) (ok : Consistent c) (n : ℕ) (v : Year) (y : ListsMonths c n v) where
   last : y .span .first + v .count ≡ y .span .next
   last = omega (arith, y .count, span-first c ok (y .span), span-next c ok (y .span), count-least (reckoned c ok) n)
 
@@ -85,7 +90,7 @@ module _ (c : Constants) (ok : Consistent c) (n : ℕ) (v : Year) (y : HoldsYear
   day-in : (i r : ℕ) → i < v .count → headIn v i ≤ r → r < headIn v (i + 1) → InMonth c (y .span .first + i) (r + c .anchor)
   day-in i r h a b = (omega (arith, head-upto i (omega arith)), omega (arith, head-after i h))
 
-  tile : (r : ℕ) → headIn v 0 ≤ r → r < headIn v (v .count) → One (λ i. (i < v .count) × (headIn v i ≤ r) × (r < headIn v (i + 1)))
+  tile : (r : ℕ) → headIn v 0 ≤ r → r < headIn v (v .count) → ExactlyOne (λ i. (i < v .count) × (headIn v i ≤ r) × (r < headIn v (i + 1)))
   tile r a b =
       let e : y .span .first + 0 ≡ y .span .first = omega arith in
       let day : DayOfYear c n (r + c .anchor) =
@@ -155,8 +160,8 @@ module _ (system year : ℕ) (s : InScope system year) where
   unfolding yearOf
   answer = answered yearIn noYear (askedOf (yearRefusal system year) system year) _ refl (in-scope system year s)
 
-  pub year-holds : HoldsYear c (yearsElapsed c year) (yearOf system year)
-  year-holds = subst (HoldsYear c (yearsElapsed c year)) answer (holds-year c (yearsElapsed c year) (reach system year (s .year-inside)))
+  pub year-holds : ListsMonths c (yearsElapsed c year) (yearOf system year)
+  year-holds = subst (ListsMonths c (yearsElapsed c year)) answer (holds-year c (yearsElapsed c year) (reach system year (s .year-inside)))
 
   pub year-tiled : Tiled (yearOf system year)
   year-tiled = tiled c (consistent system) (yearsElapsed c year) (yearOf system year) year-holds

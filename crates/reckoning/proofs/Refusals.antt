@@ -4,7 +4,7 @@ use mathlib.Core.Path.{_≡_, refl, sym, _∙_}
 use mathlib.Core.Bool.{Bool, true, false, true≢false, cond, _||_}
 use lib.Dec.{ltb}
 use native.Mathlib.Omega.{arith}
-use borrow.Author.Tests.{ltb-false, le-ltb}
+use borrow.Author.Tests.{ltb-false, lt-ltb, le-ltb}
 use Rattle.calendar.specs.Inside.{Inside}
 use Rattle.reckoning.specs.Scope.{InScope}
 use Rattle.reckoning.specs.Refusal.{outside, yearRefusal, qiRefusal}
@@ -96,3 +96,8 @@ pub in-scope-qi : (system year i : ℕ) → InScope system year → i ≤ 23 →
 unfolding qiRefusal
 in-scope-qi system year i s h =
     simp (inside 1 2 system (s .system-inside), inside 1 3000 year (s .year-inside), le-ltb 23 i h)
+
+pub qi-nine : (system year i : ℕ) → InScope system year → 23 < i → qiRefusal system year i ≡ 9
+unfolding qiRefusal
+qi-nine system year i s h =
+    simp (inside 1 2 system (s .system-inside), inside 1 3000 year (s .year-inside), lt-ltb 23 i h)

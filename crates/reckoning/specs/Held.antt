@@ -12,20 +12,20 @@ use Rattle.reckoning.specs.declared.data.Qi.{Qi}
 use Rattle.reckoning.specs.declared.data.Sheet.{Sheet}
 
 -- The solstice of year n.
-pub record HoldsSolstice (c : Constants) (n : ℕ) (v : Solstice) : Type 0 where
+pub record IsSolstice (c : Constants) (n : ℕ) (v : Solstice) : Type 0 where
   pub accepted : v .refusal ≡ 0
   pub day : v .day .0 + c .anchor ≡ solsticeDay c n
   pub remainder : v .remainder ≡ solsticeRemainder c n
 
 -- Qi i of year n: its day, parts and small units together are its moment, to the last small unit.
-pub record HoldsQi (c : Constants) (n i : ℕ) (v : Qi) : Type 0 where
+pub record IsQi (c : Constants) (n i : ℕ) (v : Qi) : Type 0 where
   pub accepted : v .refusal ≡ 0
   pub moment : ((v .day .0 + c .anchor) * c .day + v .parts) * c .units + v .units ≡ qi c n i
   pub parts-below : v .parts < c .day
   pub units-below : v .units < c .units
 
 -- The names of the days of year n, by the name of count day 0, and 255 past the year's end.
-pub record HoldsSheet (c : Constants) (n : ℕ) (v : Sheet) : Type 0 where
+pub record IsSheet (c : Constants) (n : ℕ) (v : Sheet) : Type 0 where
   pub accepted : v .refusal ≡ 0
   pub span : Span c n
   pub size : length (v .names) ≡ 384

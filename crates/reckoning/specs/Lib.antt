@@ -3,6 +3,8 @@
 pub mod Scope
 -- Numbered refusals: the first rule that applies.
 pub mod Refusal
+-- Tables of refusals in words.
+pub mod Rows
 -- What a request stands on, and how its answer follows.
 pub mod Asked
 -- What each request answers.

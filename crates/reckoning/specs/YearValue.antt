@@ -2,9 +2,9 @@
 use Prim.Native.Nat.{ℕ, _+_, _-_, _≤_, _<_}
 use mathlib.Core.Path.{_≡_}
 use mathlib.Core.Logic.{_⊎_}
-use lib.ListN.{getD}
+use lib.ListN.{length, getD}
 use Rattle.calendar.specs.declared.data.Constants.{Constants}
-use Rattle.calendar.specs.One.{One}
+use Rattle.calendar.specs.ExactlyOne.{ExactlyOne}
 use Rattle.calendar.specs.Month.{monthHead, Bears, Marked}
 use Rattle.calendar.specs.Year.{Span, monthCount, nextHead}
 use Rattle.reckoning.specs.declared.data.Year.{Year}
@@ -22,7 +22,9 @@ leapIn v i = getD (v .leaps) i 0
 
 -- The value holds the months of year n by the reckoning: their count, in order each head, number and leap mark, then
 -- the next year's head; unused places are 0. A register day is a count day less the anchor.
-pub record HoldsYear (c : Constants) (n : ℕ) (v : Year) : Type 0 where
+pub record ListsMonths (c : Constants) (n : ℕ) (v : Year) : Type 0 where
+  pub accepted : v .refusal ≡ 0
+  pub places : (length (v .heads) ≡ 14) × (length (v .numbers) ≡ 14) × (length (v .leaps) ≡ 14)
   pub span : Span c n
   pub count : v .count ≡ monthCount span
   pub head : (i : ℕ) → i < v .count → headIn v i + c .anchor ≡ monthHead c (span .first + i)
@@ -39,6 +41,6 @@ pub record Tiled (v : Year) : Type 0 where
   pub months : (v .count ≡ 12) ⊎ (v .count ≡ 13)
   pub days : (i : ℕ) → i < v .count → (headIn v (i + 1) ≡ headIn v i + 29) ⊎ (headIn v (i + 1) ≡ headIn v i + 30)
   pub tile : (r : ℕ) → headIn v 0 ≤ r → r < headIn v (v .count)
-      → One (λ i. (i < v .count) × (headIn v i ≤ r) × (r < headIn v (i + 1)))
+      → ExactlyOne (λ i. (i < v .count) × (headIn v i ≤ r) × (r < headIn v (i + 1)))
   pub twelve : v .count ≡ 12 → (i : ℕ) → i < 12 → leapIn v i ≡ 0
-  pub thirteen : v .count ≡ 13 → One (λ i. (i < 13) × (leapIn v i ≡ 1))
+  pub thirteen : v .count ≡ 13 → ExactlyOne (λ i. (i < 13) × (leapIn v i ≡ 1))

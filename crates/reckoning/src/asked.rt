@@ -1,17 +1,31 @@
 // What a request by system and year stands on.
 ghost use mathlib.Core.Path.{_≡_};
+ghost use Rattle.calendar.specs.Systems.{constantsOf};
 ghost use Rattle.reckoning.specs.Asked.{askedOf};
 ghost use Rattle.reckoning.specs.Refusal.{yearRefusal, qiRefusal};
 use crate::closed_forms::years_elapsed;
 use crate::refusal;
 use calendar::data::Constants;
-use calendar::systems::constants_of;
+use calendar::systems::guantian;
+use calendar::systems::jiyuan;
 
 // Its refusal number, the system's constants and the years elapsed.
 pub(crate) struct Asked {
     pub refusal: u8,
     pub c: Constants,
     pub n: u64,
+}
+
+// The constants that a system's number picks. A number that is neither 1 nor 2 picks Jiyuan's, and its request is
+// refused.
+fn constants_of(system: u32) -> Constants
+    ensures { λ r. ⌜ r ≡ constantsOf system ⌝ }
+{
+    if system == 1 {
+        guantian()
+    } else {
+        jiyuan()
+    }
 }
 
 fn ask(refusal: u8, system: u32, year: u32) -> Asked

@@ -7,16 +7,18 @@ ghost use Rattle.reckoning.specs.Room.{Reach};
 use crate::data::Sheet;
 use crate::year_days;
 use calendar::data::Constants;
+use calendar::data::RegisterDay;
 
 // The names of `length` days from register day `head` on, and 255 after them.
-fn names_from(head: u32, length: usize) -> [u8; 384]
+fn names_from(head: RegisterDay, length: usize) -> [u8; 384]
     requires { ⌜ length ≤ 384 ⌝ }
-    ensures { λ r. ⌜ r ≡ filled (nameAt head) noNames length ⌝ }
+    ensures { λ r. ⌜ r ≡ filled (nameAt (head .0)) noNames length ⌝ }
 {
+    let first = head.0 as u64;
     let mut names = [255u8; 384];
     let mut i = 0;
     while i < length {
-        names[i] = ((head as u64 + i as u64 + 49) % 60) as u8;
+        names[i] = ((first + i as u64 + 49) % 60) as u8;
         i += 1;
     }
     names
@@ -28,7 +30,7 @@ pub(crate) fn of_year(c: Constants, n: u64) -> Sheet
     ensures { λ r. ⌜ r ≡ sheetIn c n ⌝ }
 {
     let days = year_days::of_year(c, n);
-    let names = names_from(days.head.0, days.length as usize);
+    let names = names_from(days.head, days.length as usize);
     Sheet {
         refusal: 0,
         names: names,

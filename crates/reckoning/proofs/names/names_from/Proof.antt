@@ -1,3 +1,4 @@
+use borrow.Author.Needs.{needs}
 use Prim.Native.Nat.{_-_, _≤_}
 use mathlib.Core.Path.{_≡_, refl, ap, _∙_}
 use native.Mathlib.Omega.{arith}
@@ -8,10 +9,13 @@ use Rattle.reckoning.proofs.names.names_from.Statement.{statement}
 use Rattle.reckoning.proofs.names.names_from.Tie as tie
 
 abbrev Inv-loop : tie.InvT-loop
-Inv-loop head length names₀ i₀ names i = (i ≤ length) × (names ≡ filled (nameAt head) noNames i)
+Inv-loop length first names₀ i₀ names i = (i ≤ length) × (names ≡ filled (nameAt first) noNames i)
 
 abbrev μ-loop : tie.MeasureT-loop
-μ-loop head length names₀ i₀ names i = length - i
+μ-loop length first names₀ i₀ names i = length - i
+
+cast-first : tie.Need-cast-first Inv-loop μ-loop
+cast-first c = search needs
 
 loop-holds : tie.Need-loop-holds Inv-loop μ-loop
 loop-holds c = (omega arith, filled-none _ _)
@@ -38,7 +42,7 @@ loop-again : tie.Need-loop-again Inv-loop μ-loop
 loop-again c = (omega arith, filled-more _ _ _ _ _ (c .before .loop .inv .1) refl)
 
 returns : tie.Need-returns Inv-loop μ-loop
-returns c = let e : c .before .loop .i ≡ c .before .before .args .length = omega arith in c .before .loop .inv .1 ∙ ap (filled _ noNames) e
+returns c = let e : c .before .loop .i ≡ c .before .before .before .args .length = omega arith in c .before .loop .inv .1 ∙ ap (filled _ noNames) e
 
 pub names-from-spec : {M : Type 1} → statement M
 names-from-spec =
@@ -46,6 +50,7 @@ names-from-spec =
     (tie.spec
     Inv-loop
     μ-loop
+    cast-first
     loop-holds
     add-names
     add-names-2

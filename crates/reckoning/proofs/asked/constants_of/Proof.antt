@@ -1,7 +1,7 @@
 use borrow.Author.Needs.{needs}
 use borrow.Author.Tests.{eq-eqb, ne-eqb}
-use Rattle.calendar.proofs.systems.constants_of.Statement.{statement}
-use Rattle.calendar.proofs.systems.constants_of.Tie as tie
+use Rattle.reckoning.proofs.asked.constants_of.Statement.{statement}
+use Rattle.reckoning.proofs.asked.constants_of.Tie as tie
 
 guantian-requires : tie.Need-guantian-requires
 guantian-requires c κs = search needs

@@ -1,0 +1,65 @@
+#!/usr/bin/env bash
+# Measures chiselbrow's program against the C one on one long stream, after
+# checking that they write the same lines.
+#
+#     bench_program.sh CHISELBROW_PROGRAM C_PROGRAM [SEED]
+
+set -euo pipefail
+export LC_ALL=C     # the clock below is read with a decimal point
+
+count=2000000
+rounds=7
+
+if [ $# -lt 2 ] || [ $# -gt 3 ]; then
+    echo "usage: bench_program.sh CHISELBROW_PROGRAM C_PROGRAM [SEED]" >&2
+    exit 2
+fi
+chiselbrow=$(realpath -- "$1")
+c=$(realpath -- "$2")
+seed=${3:-$RANDOM}
+
+here=$(dirname -- "$(realpath -- "$0")")
+scratch=$(mktemp -d)
+trap 'rm -rf -- "$scratch"' EXIT
+
+"${CC:-gcc}" -std=c11 -O2 -Wall -Wextra -Wpedantic \
+    -o "$scratch/make_records" \
+    "$here/make_records.c" "$here/records.c" "$here/c_store.c"
+echo "seed $seed"
+"$scratch/make_records" "$seed" "$count" > "$scratch/records"
+
+"$chiselbrow" < "$scratch/records" > "$scratch/chiselbrow_lines"
+"$c" < "$scratch/records" > "$scratch/c_lines"
+if ! cmp -- "$scratch/chiselbrow_lines" "$scratch/c_lines"; then
+    echo "bench_program: the two programs write different lines" >&2
+    exit 1
+fi
+if [ "$(wc -l < "$scratch/c_lines")" -ne "$count" ]; then
+    echo "bench_program: not one line for each record" >&2
+    exit 1
+fi
+
+# Sets took to the microseconds that a program takes for the stream.
+time_program() {
+    local start=${EPOCHREALTIME/./}
+    "$1" < "$scratch/records" > /dev/null
+    took=$((${EPOCHREALTIME/./} - start))
+}
+
+best_chiselbrow=
+best_c=
+for ((round = 0; round < rounds; round++)); do
+    time_program "$chiselbrow"
+    if [ -z "$best_chiselbrow" ] || ((took < best_chiselbrow)); then
+        best_chiselbrow=$took
+    fi
+    time_program "$c"
+    if [ -z "$best_c" ] || ((took < best_c)); then
+        best_c=$took
+    fi
+done
+
+awk -v count="$count" -v chiselbrow="$best_chiselbrow" -v c="$best_c" 'BEGIN {
+    printf "program: chiselbrow %.1f ns, C %.1f ns, ratio %.2f\n",
+        chiselbrow * 1e3 / count, c * 1e3 / count, chiselbrow / c
+}'

@@ -1,0 +1,195 @@
+/* The program, written by hand in C: records from standard input, one line
+ * for each to standard output. */
+
+#define _POSIX_C_SOURCE 200809L
+
+#include <errno.h>
+#include <stdint.h>
+#include <string.h>
+#include <unistd.h>
+
+#include "c_store.h"
+
+enum {
+    INPUT_ROOM = 64 * 1024,
+    OUTPUT_ROOM = 128 * 1024,
+    SHORTEST_RECORD = 4,
+    LONGEST_RECORD = 64,
+    LONGEST_LINE = 32,  /* "G 3000 10* 30 2817999 59\n" has 25 bytes */
+    STORED_LEN = 10
+};
+
+/* Output. Nothing more can be told once writing or reading fails. */
+
+static char output[OUTPUT_ROOM];
+static size_t output_len;
+
+static void flush_output(void)
+{
+    size_t done = 0;
+
+    while (done < output_len) {
+        ssize_t written = write(1, output + done, output_len - done);
+        if (written >= 0)
+            done += (size_t)written;
+        else if (errno != EINTR)
+            _exit(1);
+    }
+    output_len = 0;
+}
+
+/* Room for one more line. */
+static char *line_start(void)
+{
+    if (OUTPUT_ROOM - output_len < LONGEST_LINE)
+        flush_output();
+    return output + output_len;
+}
+
+static void line_end(const char *end)
+{
+    output_len = (size_t)(end - output);
+}
+
+/* Numbers, two digits at a time. */
+
+static const char pairs[] =
+    "00010203040506070809" "10111213141516171819"
+    "20212223242526272829" "30313233343536373839"
+    "40414243444546474849" "50515253545556575859"
+    "60616263646566676869" "70717273747576777879"
+    "80818283848586878889" "90919293949596979899";
+
+static char *put_pair(char *at, uint32_t number)
+{
+    memcpy(at, pairs + 2 * number, 2);
+    return at + 2;
+}
+
+/* Below 10 this starts at the second digit and writes one byte too many,
+ * which the next one covers; so there is no branch to guess wrong. */
+static char *put_below_100(char *at, uint32_t number)
+{
+    uint32_t skipped = number < 10;
+
+    memcpy(at, pairs + 2 * number + skipped, 2);
+    return at + 2 - skipped;
+}
+
+static char *put_year(char *at, uint32_t year)
+{
+    if (year < 100)
+        return put_below_100(at, year);
+    at = put_below_100(at, year / 100);
+    return put_pair(at, year % 100);
+}
+
+/* Every day of the years 1 to 3000 has a number of seven digits. */
+static char *put_register_day(char *at, uint32_t day)
+{
+    *at++ = (char)('0' + day / 1000000);
+    at = put_pair(at, day / 10000 % 100);
+    at = put_pair(at, day / 100 % 100);
+    return put_pair(at, day % 100);
+}
+
+/* Lines. */
+
+static void write_refused(uint32_t number)
+{
+    static const char word[8] = "refused ";
+    char *at = line_start();
+
+    memcpy(at, word, sizeof word);
+    at[8] = (char)('0' + number);
+    at[9] = '\n';
+    line_end(at + 10);
+}
+
+static void write_stored(const uint8_t *stored, uint32_t day)
+{
+    uint32_t year = (uint32_t)stored[5] | (uint32_t)stored[6] << 8;
+    char *at = line_start();
+
+    *at++ = stored[4] == 1 ? 'G' : 'J';
+    *at++ = ' ';
+    at = put_year(at, year);
+    *at++ = ' ';
+    at = put_below_100(at, stored[7]);
+    *at = '*';
+    at += stored[8];
+    *at++ = ' ';
+    at = put_below_100(at, stored[9]);
+    *at++ = ' ';
+    at = put_register_day(at, day);
+    *at++ = ' ';
+    at = put_below_100(at, (day + 49) % 60);
+    *at++ = '\n';
+    line_end(at);
+}
+
+static void write_line(const uint8_t *record, size_t length)
+{
+    uint8_t stored[STORED_LEN];
+    uint64_t answer = c_store(record, length, stored, sizeof stored);
+    uint32_t refusal = (uint32_t)(answer >> 32);
+
+    if (refusal != 0)
+        write_refused(refusal);
+    else
+        write_stored(stored, (uint32_t)answer);
+}
+
+/* Input: the bytes not yet used are those from input_at to input_end. */
+
+static uint8_t input[INPUT_ROOM];
+static size_t input_at, input_end;
+
+/* Adds bytes to those left. Returns 0 when the input has ended. All lines are
+ * out before it waits, so that who writes a record can wait for its line. */
+static int read_more(void)
+{
+    ssize_t got;
+
+    flush_output();
+    memmove(input, input + input_at, input_end - input_at);
+    input_end -= input_at;
+    input_at = 0;
+    do
+        got = read(0, input + input_end, INPUT_ROOM - input_end);
+    while (got < 0 && errno == EINTR);
+    if (got < 0)
+        _exit(1);
+    input_end += (size_t)got;
+    return got > 0;
+}
+
+/* Writes the lines of all whole records at hand. Returns 0 when what follows
+ * cannot be a record, whatever bytes may still come. */
+static int write_lines(void)
+{
+    while (input_end - input_at >= 2) {
+        const uint8_t *record = input + input_at;
+        size_t length = (size_t)record[0] | (size_t)record[1] << 8;
+
+        if (length < SHORTEST_RECORD || length > LONGEST_RECORD)
+            return 0;
+        if (length > input_end - input_at)
+            return 1;
+        write_line(record, length);
+        input_at += length;
+    }
+    return 1;
+}
+
+int main(void)
+{
+    int sound = 1;
+
+    while (sound && read_more())
+        sound = write_lines();
+    if (input_at < input_end)
+        write_refused(1);
+    flush_output();
+    return 0;
+}

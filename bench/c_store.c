@@ -1,0 +1,287 @@
+/* The storing step by closed forms: no loop, no search, no table.
+ *
+ * Months k, days d (count days) and middle qi g are all counted from the
+ * epoch. Middle qi 12 N + j is number j, 0 to 11, of the year with N years
+ * elapsed, so that nothing needs a case for the turn of the year. */
+
+#include "c_store.h"
+
+#include <string.h>
+
+/* Everything that takes a calendar is put into each of its callers, so that
+ * its constants are literals there and no division is left to the machine. */
+#if defined(__GNUC__)
+#define INLINE static inline __attribute__((always_inline))
+#else
+#define INLINE static inline
+#endif
+
+enum {
+    LAST_YEAR = 3000,
+    STORED_LEN = 10
+};
+
+struct calendar {
+    uint64_t day;       /* parts in a day */
+    uint64_t year;      /* parts in a year */
+    uint64_t month;     /* parts in a mean month */
+    uint64_t elapsed;   /* years elapsed at common year 0 */
+    uint64_t anchor;    /* count day less register day */
+};
+
+static const struct calendar guantian = {
+    12030, 4393880, 355253, 5944808 - 1092, 2169182929
+};
+
+static const struct calendar jiyuan = {
+    7290, 2662626, 215278, 28613460 - 1100, 10448760934
+};
+
+/* Bytes. The shifts become single loads and stores. */
+
+INLINE uint32_t get_16(const uint8_t *from)
+{
+    return (uint32_t)from[0] | (uint32_t)from[1] << 8;
+}
+
+INLINE uint32_t get_32(const uint8_t *from)
+{
+    return get_16(from) | get_16(from + 2) << 16;
+}
+
+INLINE void put_stored(uint8_t *to, uint32_t system, uint32_t year,
+                       uint32_t month, uint32_t leap, uint32_t day)
+{
+    to[0] = STORED_LEN;
+    to[1] = 0;
+    to[2] = 1;
+    to[3] = 0;
+    to[4] = (uint8_t)system;
+    to[5] = (uint8_t)year;
+    to[6] = (uint8_t)(year >> 8);
+    to[7] = (uint8_t)month;
+    to[8] = (uint8_t)leap;
+    to[9] = (uint8_t)day;
+}
+
+INLINE uint64_t refuse(uint64_t number)
+{
+    return number << 32;
+}
+
+/* The reckoning. */
+
+INLINE uint64_t month_of_qi(const struct calendar *c, uint64_t qi)
+{
+    return qi * c->year / (12 * c->month);
+}
+
+INLINE uint64_t head_of_month(const struct calendar *c, uint64_t month)
+{
+    return month * c->month / c->day;
+}
+
+INLINE uint64_t head_of_year(const struct calendar *c, uint32_t year)
+{
+    return head_of_month(c, month_of_qi(c, 12 * (c->elapsed + year)));
+}
+
+/* A month as kinds 1 and 2 cite it. */
+struct month {
+    uint32_t refusal;   /* 0, 5 or 6 */
+    uint32_t length;
+    uint64_t head;      /* count day */
+};
+
+INLINE struct month cited_month(const struct calendar *c, uint32_t year,
+                                uint32_t number, uint32_t leap)
+{
+    struct month found = {0, 0, 0};
+
+    if (year - 1 >= LAST_YEAR) {
+        found.refusal = 5;
+        return found;
+    }
+    if (number - 1 >= 12 || leap > 1) {
+        found.refusal = 6;
+        return found;
+    }
+
+    /* The year begins with month 11, so months 11 and 12 come before 1. */
+    uint32_t qi_of_year = number + 1 - (number > 10 ? 12 : 0);
+    uint64_t moment =
+        (12 * (c->elapsed + year) + qi_of_year) * c->year;
+    uint64_t month = moment / (12 * c->month);
+
+    if (leap) {
+        /* A leap month comes next exactly when the next middle qi misses it,
+         * that is, falls two months' lengths or more after this new moon. */
+        if (moment % (12 * c->month) + c->year < 24 * c->month) {
+            found.refusal = 6;
+            return found;
+        }
+        month++;
+    }
+
+    /* A month has 29 whole days and some parts, so it has a thirtieth day
+     * when these carry the remainder of its new moon over a day's end. */
+    uint64_t new_moon = month * c->month;
+    found.head = new_moon / c->day;
+    found.length =
+        29 + (new_moon % c->day + c->month >= 30 * c->day ? 1 : 0);
+    return found;
+}
+
+/* A day's date, the year and month number still to be read from the qi. */
+struct date {
+    uint64_t qi;        /* the last middle qi before the end of the month */
+    uint32_t leap;
+    uint32_t day;
+};
+
+INLINE struct date date_of_day(const struct calendar *c, uint64_t day)
+{
+    struct date found;
+
+    /* From the new moon to the end of the day there are as many whole days
+     * as the month has days before this one. */
+    uint64_t day_end = (day + 1) * c->day - 1;
+    uint64_t month = day_end / c->month;
+    uint32_t into_month = (uint32_t)(day_end % c->month);
+    found.day = into_month / (uint32_t)c->day + 1;
+
+    /* A month is leap when its last middle qi was before its own new moon. */
+    uint64_t month_end = 12 * (month + 1) * c->month - 1;
+    found.qi = month_end / c->year;
+    found.leap = month_end % c->year >= 12 * c->month;
+    return found;
+}
+
+INLINE uint32_t number_of_qi(uint32_t qi_of_year)
+{
+    return qi_of_year < 2 ? qi_of_year + 11 : qi_of_year - 1;
+}
+
+/* The four kinds. The record's own shape and system are settled before. */
+
+INLINE uint64_t store_kind_1(const struct calendar *c, const uint8_t *input,
+                             uint8_t *output, size_t output_len)
+{
+    struct month month =
+        cited_month(c, get_16(input + 5), input[7], input[8]);
+    uint32_t before = (uint32_t)input[9] - 1;
+
+    if (month.refusal)
+        return refuse(month.refusal);
+    if (before >= month.length)
+        return refuse(7);
+    if (output_len < STORED_LEN)
+        return refuse(8);
+    memcpy(output, input, STORED_LEN);
+    return month.head - c->anchor + before;
+}
+
+INLINE uint64_t store_kind_2(const struct calendar *c, const uint8_t *input,
+                             uint8_t *output, size_t output_len)
+{
+    uint32_t year = get_16(input + 5);
+    struct month month = cited_month(c, year, input[7], input[8]);
+    uint32_t name = input[9];
+
+    if (month.refusal)
+        return refuse(month.refusal);
+    if (name >= 60)
+        return refuse(7);
+
+    uint32_t head = (uint32_t)(month.head - c->anchor);
+    uint32_t head_name = (head + 49) % 60;
+    uint32_t before = name - head_name + (name < head_name ? 60 : 0);
+    if (before >= month.length)
+        return refuse(7);
+    if (output_len < STORED_LEN)
+        return refuse(8);
+    put_stored(output, input[4], year, input[7], input[8], before + 1);
+    return head + before;
+}
+
+INLINE uint64_t store_kind_3(const struct calendar *c, const uint8_t *input,
+                             uint8_t *output, size_t output_len)
+{
+    uint32_t year = get_16(input + 5);
+    uint32_t ordinal = get_16(input + 7);
+
+    if (year - 1 >= LAST_YEAR)
+        return refuse(5);
+    if (ordinal == 0)
+        return refuse(7);
+
+    /* Past the year's end the date's qi is one of a later year. */
+    uint64_t day = head_of_year(c, year) + ordinal - 1;
+    struct date date = date_of_day(c, day);
+    uint64_t qi_of_year = date.qi - 12 * (c->elapsed + year);
+    if (qi_of_year >= 12)
+        return refuse(7);
+    if (output_len < STORED_LEN)
+        return refuse(8);
+    put_stored(output, input[4], year, number_of_qi((uint32_t)qi_of_year),
+               date.leap, date.day);
+    return day - c->anchor;
+}
+
+INLINE uint64_t store_kind_4(const struct calendar *c, const uint8_t *input,
+                             uint8_t *output, size_t output_len)
+{
+    uint64_t register_day = get_32(input + 5);
+    uint64_t day = register_day + c->anchor;
+
+    if (day < head_of_year(c, 1) || day >= head_of_year(c, LAST_YEAR + 1))
+        return refuse(7);
+    if (output_len < STORED_LEN)
+        return refuse(8);
+
+    struct date date = date_of_day(c, day);
+    uint32_t qi = (uint32_t)(date.qi - 12 * c->elapsed);
+    put_stored(output, input[4], qi / 12, number_of_qi(qi % 12),
+               date.leap, date.day);
+    return register_day;
+}
+
+INLINE uint64_t store_by(const struct calendar *c, uint32_t kind,
+                         const uint8_t *input,
+                         uint8_t *output, size_t output_len)
+{
+    switch (kind) {
+    case 1:
+        return store_kind_1(c, input, output, output_len);
+    case 2:
+        return store_kind_2(c, input, output, output_len);
+    case 3:
+        return store_kind_3(c, input, output, output_len);
+    default:
+        return store_kind_4(c, input, output, output_len);
+    }
+}
+
+uint64_t c_store(const uint8_t *input, size_t input_len,
+                 uint8_t *output, size_t output_len)
+{
+    if (input_len < 4)
+        return refuse(1);
+
+    uint32_t kind = get_16(input + 2);
+    if (kind - 1 >= 4)
+        return refuse(2);
+
+    uint32_t kind_len = kind <= 2 ? 10 : 9;
+    if (get_16(input) != kind_len || input_len != kind_len)
+        return refuse(3);
+
+    switch (input[4]) {
+    case 1:
+        return store_by(&guantian, kind, input, output, output_len);
+    case 2:
+        return store_by(&jiyuan, kind, input, output, output_len);
+    default:
+        return refuse(4);
+    }
+}

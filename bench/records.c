@@ -1,0 +1,125 @@
+#include "records.h"
+
+#include <string.h>
+
+#include "c_store.h"
+
+static uint64_t next_random(struct random *random)
+{
+    uint64_t mixed = random->state += UINT64_C(0x9E3779B97F4A7C15);
+
+    mixed = (mixed ^ mixed >> 30) * UINT64_C(0xBF58476D1CE4E5B9);
+    mixed = (mixed ^ mixed >> 27) * UINT64_C(0x94D049BB133111EB);
+    return mixed ^ mixed >> 31;
+}
+
+uint32_t random_below(struct random *random, uint32_t bound)
+{
+    return (uint32_t)((next_random(random) >> 32) * bound >> 32);
+}
+
+static void put_16(uint8_t *to, uint32_t number)
+{
+    to[0] = (uint8_t)number;
+    to[1] = (uint8_t)(number >> 8);
+}
+
+static void put_32(uint8_t *to, uint32_t number)
+{
+    put_16(to, number);
+    put_16(to + 2, number >> 16);
+}
+
+size_t make_accepted(struct random *random, uint32_t kind, uint8_t *record)
+{
+    uint8_t by_ordinal[9] = {9, 0, 3, 0};
+    uint8_t stored[10];
+    uint64_t day;
+
+    /* Drawing until the year has the ordinal makes all days alike likely. */
+    do {
+        by_ordinal[4] = (uint8_t)(1 + random_below(random, 2));
+        put_16(by_ordinal + 5, 1 + random_below(random, 3000));
+        put_16(by_ordinal + 7, 1 + random_below(random, 384));
+        day = c_store(by_ordinal, sizeof by_ordinal, stored, sizeof stored);
+    } while (day >> 32 != 0);
+
+    if (kind == 3) {
+        memcpy(record, by_ordinal, sizeof by_ordinal);
+        return sizeof by_ordinal;
+    }
+    if (kind == 4) {
+        memcpy(record, by_ordinal, 5);
+        record[2] = 4;
+        put_32(record + 5, (uint32_t)day);
+        return 9;
+    }
+    memcpy(record, stored, sizeof stored);
+    if (kind == 2) {
+        record[2] = 2;
+        record[9] = (uint8_t)((day + 49) % 60);
+    }
+    return sizeof stored;
+}
+
+/* Changes one part of an accepted record, so that the refusal may apply.
+ * Returns the new length. */
+static size_t spoil(struct random *random, uint32_t refusal,
+                    uint8_t *record, size_t length)
+{
+    uint32_t kind = record[2];
+    uint32_t way = random_below(random, 3);
+
+    switch (refusal) {
+    case 1:
+        return random_below(random, 4);
+    case 2:
+        put_16(record + 2, way == 0 ? 0 : way == 1 ? 5 : 256 + kind);
+        return length;
+    case 3:
+        if (way == 0) {
+            put_16(record, random_below(random, 65));
+            return length;
+        }
+        record[length] = 0;
+        return way == 1 ? length - 1 : length + 1;
+    case 4:
+        record[4] = (uint8_t)(way == 0 ? 0 : 3 + random_below(random, 253));
+        return length;
+    case 5:
+        if (kind < 4)
+            put_16(record + 5,
+                   way == 0 ? 0 : 3001 + random_below(random, 62535));
+        return length;
+    case 6:
+        if (way == 0)
+            record[7] = (uint8_t)(random_below(random, 2) ? 0 : 13);
+        else
+            record[8] = (uint8_t)way;
+        return length;
+    default:
+        if (kind <= 2)
+            record[9] = (uint8_t)random_below(random, 256);
+        else if (kind == 3)
+            put_16(record + 7, way == 0 ? 0 : 354 + random_below(random, 64));
+        else
+            put_32(record + 5, way == 0 ? random_below(random, 1721000)
+                                        : 2830000 + random_below(random, 9999));
+        return length;
+    }
+}
+
+size_t make_refused(struct random *random, uint8_t *record)
+{
+    uint32_t refusal = 1 + random_below(random, 7);
+    uint8_t output[10];
+    size_t length;
+
+    /* Some ways to spoil a record leave it accepted, or refused otherwise. */
+    do {
+        uint32_t kind = 1 + random_below(random, KINDS);
+        length = make_accepted(random, kind, record);
+        length = spoil(random, refusal, record, length);
+    } while (c_store(record, length, output, sizeof output) >> 32 != refusal);
+    return length;
+}

@@ -1,0 +1,30 @@
+/* Random citation records to measure with. They are made before anything is
+ * timed, so that making them need not be quick. */
+
+#ifndef RECORDS_H
+#define RECORDS_H
+
+#include <stddef.h>
+#include <stdint.h>
+
+enum {
+    KINDS = 4,
+    RECORD_ROOM = 16    /* more than the longest record made here */
+};
+
+struct random {
+    uint64_t state;     /* any seed */
+};
+
+/* A number from 0 up to, not including, the bound. */
+uint32_t random_below(struct random *random, uint32_t bound);
+
+/* Writes an accepted record of the kind, 1 to 4, in a random system, for a
+ * random day of the years 1 to 3000. Returns its length. */
+size_t make_accepted(struct random *random, uint32_t kind, uint8_t *record);
+
+/* Writes a record that the storing step gives one of the refusals 1 to 7.
+ * Returns its length, which may differ from what its length field says. */
+size_t make_refused(struct random *random, uint8_t *record);
+
+#endif

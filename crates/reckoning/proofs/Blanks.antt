@@ -1,0 +1,57 @@
+-- Direct requests are refused by their table, and then answer their blank.
+use Prim.Native.Nat.{ℕ, _≤_, _<_}
+use mathlib.Core.Path.{_≡_, refl, sym, _∙_}
+use mathlib.Core.Logic.{inl, inr}
+use native.Mathlib.Omega.{arith}
+use Rattle.calendar.specs.declared.data.Constants.{Constants}
+use Rattle.calendar.proofs.Rising.{by-order}
+use Rattle.reckoning.specs.Rows.{FirstOf, yearRows, qiRows}
+use Rattle.reckoning.specs.Refusal.{yearRefusal, qiRefusal}
+use Rattle.reckoning.specs.Asked.{askedOf, answerTo}
+use Rattle.reckoning.specs.Requests.{solsticeIn, noSolstice, solsticeOf, qiIn, noQi, qiOf, yearIn, noYear, yearOf, sheetIn, noSheet, sheetOf}
+use Rattle.reckoning.proofs.Refusals.{by-scope, in-scope, in-scope-qi, qi-unseen, qi-nine}
+use Rattle.reckoning.proofs.Answers.{refused}
+
+pub year-refusal-first : (system year : ℕ) → FirstOf (yearRows system year) (yearRefusal system year)
+year-refusal-first system year =
+    by-scope system year
+    (λ no-system e. inl (e, no-system))
+    (λ i no-year e. inr (λ w. w i, inl (e, no-year)))
+    (λ s. inr (λ w. w (s .system-inside), inr (λ w. w (s .year-inside), in-scope system year s)))
+
+pub qi-refusal-first : (system year i : ℕ) → FirstOf (qiRows system year i) (qiRefusal system year i)
+qi-refusal-first system year i =
+    by-scope system year
+    (λ no-system e. inl (sym (qi-unseen system year i (λ z. omega arith)) ∙ e, no-system))
+    (λ s no-year e. inr (λ w. w s, inl (sym (qi-unseen system year i (λ z. omega arith)) ∙ e, no-year)))
+    (λ s.
+      inr
+      ( λ w. w (s .system-inside)
+      , inr
+        ( λ w. w (s .year-inside)
+        , by-order 23 i
+          (λ h. inl (qi-nine system year i s h, h))
+          (λ h. inr (λ w. omega arith, in-scope-qi system year i s h)) ) ))
+
+-- Refused, each gives its blank with the number.
+blank-given : {A : Type 0} (answer : Constants → ℕ → A) (blank : ℕ → A) (refusal system year : ℕ) → (refusal ≡ 0 → ⊥)
+  → answerTo (askedOf refusal system year) answer blank ≡ blank refusal
+blank-given answer blank refusal system year some =
+    sym (refused answer blank (askedOf refusal system year) (askedOf refusal system year) refl some)
+
+module _ (system year : ℕ) (some : yearRefusal system year ≡ 0 → ⊥) where
+  pub solstice-blank : solsticeOf system year ≡ noSolstice (yearRefusal system year)
+  unfolding solsticeOf
+  solstice-blank = blank-given solsticeIn noSolstice (yearRefusal system year) system year some
+
+  pub year-blank : yearOf system year ≡ noYear (yearRefusal system year)
+  unfolding yearOf
+  year-blank = blank-given yearIn noYear (yearRefusal system year) system year some
+
+  pub sheet-blank : sheetOf system year ≡ noSheet (yearRefusal system year)
+  unfolding sheetOf
+  sheet-blank = blank-given sheetIn noSheet (yearRefusal system year) system year some
+
+pub qi-blank : (system year i : ℕ) → (qiRefusal system year i ≡ 0 → ⊥) → qiOf system year i ≡ noQi (qiRefusal system year i)
+unfolding qiOf
+qi-blank system year i some = blank-given (λ c n. qiIn c n i) noQi (qiRefusal system year i) system year some

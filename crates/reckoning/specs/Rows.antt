@@ -1,0 +1,25 @@
+-- Tables of refusals in words: the first row that applies is given, and none otherwise.
+use Prim.Native.Nat.{ℕ, _<_}
+use mathlib.Core.Path.{_≡_}
+use mathlib.Core.Logic.{_⊎_}
+use mathlib.Core.List.{List, [], _∷_}
+use Rattle.calendar.specs.Inside.{Inside}
+
+infixl 80 _when_
+-- A row of the table: a refusal's number, and what makes it apply.
+pub data Row : Type 1 where
+  _when_ : ℕ → Type 0 → Row
+
+-- The number of the first row that applies, and 0 where none does.
+abbrev pub FirstOf : List Row → ℕ → Type 0
+FirstOf [] number = number ≡ 0
+FirstOf ((refusal when applies) ∷ rows) number =
+    ((number ≡ refusal) × applies) ⊎ ((applies → ⊥) × FirstOf rows number)
+
+-- A request by system and year: 4, then 5,
+abbrev pub yearRows : ℕ → ℕ → List Row
+yearRows system year = 4 when (Inside 1 2 system → ⊥) ∷ 5 when (Inside 1 3000 year → ⊥) ∷ []
+
+-- and then 9 where a qi is asked.
+abbrev pub qiRows : ℕ → ℕ → ℕ → List Row
+qiRows system year i = 4 when (Inside 1 2 system → ⊥) ∷ 5 when (Inside 1 3000 year → ⊥) ∷ 9 when (23 < i) ∷ []

@@ -1,0 +1,205 @@
+/* Chiselbrow: one stored record for every day of two Song calendars.
+ *
+ * Inscriptions and papers cite a day in several ways: by its date, by its
+ * name in the round of sixty, by its place in the year, or by a day number
+ * worked out before. The storing step reads any of these and writes one
+ * canonical record of ten bytes. Two citations give the same ten bytes just
+ * when they mean the same day in the same system, so stored records can be
+ * compared and used as keys, byte for byte.
+ *
+ * A call, from declaration to answer:
+ *
+ *     #include <chiselbrow.h>
+ *     #include <stdio.h>
+ *
+ *     int main(void)
+ *     {
+ *         // Guantian, year 1094, leap month 5, the day named 37
+ *         const uint8_t cited[] = {10, 0, 2, 0, 1, 0x46, 0x04, 5, 1, 37};
+ *         uint8_t stored[CHISELBROW_STORED_SIZE];
+ *         uint64_t answer = chiselbrow_store(cited, sizeof cited,
+ *                                            stored, sizeof stored);
+ *
+ *         if (chiselbrow_refusal(answer) != CHISELBROW_ACCEPTED) {
+ *             printf("refused %u\n", chiselbrow_refusal(answer));
+ *             return 1;
+ *         }
+ *         printf("register day %lu, the first of its month: %d\n",
+ *                (unsigned long)chiselbrow_day(answer), stored[9] == 1);
+ *         return 0;
+ *     }
+ *
+ * It prints "register day 2120808, the first of its month: 1". Link with
+ * libchiselbrow.a (-lchiselbrow); nothing else is needed.
+ *
+ *
+ * WORDS
+ *
+ * system        Which calendar reckons: 1 is Guantian, 2 is Jiyuan. The same
+ *               date can fall on different days in the two.
+ *
+ * year          Numbered 1 to 3000 like the common years. It opens with month
+ *               11, the month of the winter solstice, and so begins late in
+ *               the common year before; its months run 11, 12, 1, 2 up to 10.
+ *
+ * leap          The twelve middle qi, equal steps of the sun's year counted
+ *               from the winter solstice, give the months their numbers. A
+ *               year of thirteen months has one month in which none of them
+ *               falls. That month is leap: it repeats the number of the month
+ *               just before it, and is told apart by its leap mark, 1 where
+ *               all other months have 0.
+ *
+ * register day  The day's own number: its Julian Day Number, taken for the
+ *               civil day from midnight to midnight. With the system it
+ *               identifies a day. Years 1 to 3000 have the register days
+ *               1721407 to 2817138 in both systems.
+ *
+ * name          The sixty-day name: a day's place in the round of sixty day
+ *               names, 0 for jiazi to 59 for guihai. It is (register day +
+ *               49) % 60 in either system, and comes back every sixty days.
+ *               It is a label, and never enough to tell one day from another.
+ *
+ * ordinal       A day's place in its year, from 1 to as many days as the year
+ *               has: 354, 355, 383 or 384.
+ *
+ *
+ * RECORDS
+ *
+ * A citation is one record. Numbers of more than one byte have the low byte
+ * first. All four kinds begin alike:
+ *
+ *     bytes 0, 1   length of the whole record
+ *     bytes 2, 3   kind
+ *     byte 4       system
+ *
+ *     kind            length   bytes 5, 6   byte 7   byte 8   byte 9
+ *     1 stored form       10   year         month    leap     day of month
+ *     2 by name           10   year         month    leap     name
+ *
+ *     kind            length   bytes 5, 6   bytes 7, 8
+ *     3 by ordinal         9   year         ordinal
+ *
+ *     kind            length   bytes 5 to 8
+ *     4 by day             9   register day
+ *
+ * Months are 1 to 12, days of the month count from 1, and a month has 29 or
+ * 30 of them. Since that is less than sixty, a name fits at most one day of a
+ * month. The same day four times over, each stored as the first:
+ *
+ *     0A 00 01 00 01 46 04 05 01 01    year 1094, leap month 5, day 1
+ *     0A 00 02 00 01 46 04 05 01 25    year 1094, leap month 5, name 37
+ *     09 00 03 00 01 46 04 D0 00       year 1094, ordinal 208
+ *     09 00 04 00 01 68 5C 20 00       register day 2120808
+ *
+ *
+ * REFUSALS
+ *
+ * What cannot be stored is refused by a number. The conditions are tried in
+ * the order of the numbers, and the first that holds is the one told; if none
+ * holds the citation is stored.
+ *
+ *     1   the input is shorter than 4 bytes
+ *     2   the kind is none of 1 to 4
+ *     3   the length field is not what the kind has, or the input is longer
+ *         or shorter than that
+ *     4   the system is neither 1 nor 2
+ *     5   kinds 1 to 3: the year is outside 1 to 3000
+ *     6   kinds 1 and 2: the month is outside 1 to 12, or the leap byte is
+ *         neither 0 nor 1, or it is 1 and the year has no leap month of that
+ *         number
+ *     7   the month has no such day (kind 1) or no day so named (kind 2), the
+ *         year has no such ordinal (kind 3), or the register day is outside
+ *         years 1 to 3000 of its system (kind 4)
+ *     8   the output is shorter than 10 bytes
+ */
+
+#ifndef CHISELBROW_H
+#define CHISELBROW_H
+
+#include <stddef.h>
+#include <stdint.h>
+
+#ifdef __cplusplus
+extern "C" {
+#endif
+
+/* Byte 4 of a record. */
+enum {
+    CHISELBROW_GUANTIAN = 1,
+    CHISELBROW_JIYUAN = 2
+};
+
+/* Bytes 2 and 3 of a record. */
+enum {
+    CHISELBROW_KIND_STORED = 1,
+    CHISELBROW_KIND_NAME = 2,
+    CHISELBROW_KIND_ORDINAL = 3,
+    CHISELBROW_KIND_DAY = 4
+};
+
+/* Bytes in a record of each kind. CHISELBROW_STORED_SIZE is also the room
+ * that an output needs. */
+enum {
+    CHISELBROW_STORED_SIZE = 10,
+    CHISELBROW_NAME_SIZE = 10,
+    CHISELBROW_ORDINAL_SIZE = 9,
+    CHISELBROW_DAY_SIZE = 9
+};
+
+/* What chiselbrow_refusal gives: the table above. */
+enum {
+    CHISELBROW_ACCEPTED = 0,
+    CHISELBROW_REFUSED_SHORT = 1,
+    CHISELBROW_REFUSED_KIND = 2,
+    CHISELBROW_REFUSED_LENGTH = 3,
+    CHISELBROW_REFUSED_SYSTEM = 4,
+    CHISELBROW_REFUSED_YEAR = 5,
+    CHISELBROW_REFUSED_MONTH = 6,
+    CHISELBROW_REFUSED_DAY = 7,
+    CHISELBROW_REFUSED_OUTPUT = 8
+};
+
+/* Stores one citation.
+ *
+ * input, input_len     the citation, and nothing after it; never changed
+ * output, output_len   where the stored record goes
+ *
+ * Accepted: the first ten output bytes become the stored record, a record of
+ * kind 1, and any bytes after them stay as they were. What the output held
+ * before makes no difference. Handed in again, the ten bytes are accepted and
+ * give the same ten bytes and the same day.
+ *
+ * Refused: no byte of the output changes.
+ *
+ * The answer is one number, to be taken apart by the two functions below:
+ * the register day plus 2^32 times the refusal number. Accepted, the refusal
+ * number is 0; refused, the day is 0. Bits 40 and up are 0.
+ *
+ * Any bytes may be handed in, and any lengths. Only the bytes lent are read
+ * or written. A pointer whose length is 0 may be null and stands for an empty
+ * buffer: such an input is refused 1, and such an output is refused 8 where
+ * nothing is wrong with the citation. The two buffers must not overlap.
+ *
+ * The call keeps no state, allocates nothing, makes no system call and ends
+ * after a fixed handful of steps. It may be made from any number of threads
+ * at once and from a signal handler. */
+uint64_t chiselbrow_store(const uint8_t *input, size_t input_len,
+                          uint8_t *output, size_t output_len);
+
+/* The register day in an answer; 0 when refused. */
+static inline uint32_t chiselbrow_day(uint64_t answer)
+{
+    return (uint32_t)(answer & 0xFFFFFFFFu);
+}
+
+/* The refusal number in an answer; CHISELBROW_ACCEPTED when stored. */
+static inline unsigned chiselbrow_refusal(uint64_t answer)
+{
+    return (unsigned)(answer >> 32 & 0xFFu);
+}
+
+#ifdef __cplusplus
+}
+#endif
+
+#endif

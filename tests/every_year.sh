@@ -1,0 +1,74 @@
+#!/usr/bin/env bash
+# The almanac on every year of both systems, on requests that it must refuse, and on arguments that are no request.
+set -euo pipefail
+cd "$(dirname "$0")/.."
+scratch=$(mktemp -d)
+trap 'rm -rf "$scratch"' EXIT
+
+# The almanac's pages for a system and years must be those of the independent program.
+compare() {
+    build/almanac year "$@" > "$scratch/almanac"
+    build/independent almanac "$@" > "$scratch/independent"
+    cmp "$scratch/almanac" "$scratch/independent" || { echo "every_year: another page for $*" >&2; exit 1; }
+}
+
+# Arguments that are no request get a word on standard error and nothing on standard output.
+no_request() {
+    build/almanac "$@" > "$scratch/out" 2> "$scratch/error" || true
+    [ ! -s "$scratch/out" ] || { echo "every_year: a page for the arguments: $*" >&2; exit 1; }
+    [ -s "$scratch/error" ] || { echo "every_year: no word about the arguments: $*" >&2; exit 1; }
+}
+
+compare 1 1 3000
+compare 2 1 3000
+lines=$(wc -l < "$scratch/almanac")
+
+# Numbers just outside, numbers that would come out right if they were cut to 32 or 64 bits, and the order of refusals.
+for system in 0 3 4294967297 18446744073709551617; do
+    compare "$system" 1092
+    compare "$system" 0
+done
+for year in 0 3001 4294968388 18446744073709552708 99999999999999999999; do
+    compare 1 "$year"
+    compare 2 "$year"
+done
+# Leading noughts change nothing.
+compare 002 0001108
+
+# Ranges that leave the years on either side, or that are empty.
+compare 1 0 2
+compare 2 2999 3002
+compare 1 3000 3001
+compare 2 0 0
+compare 1 3001 3001
+compare 3 1 4
+compare 1 4294967294 4294967297
+compare 2 18446744073709551614 18446744073709551617
+compare 1 99999999999999999998 100000000000000000001
+compare 1 1094 1092
+compare 2 3001 3000
+compare 1 18446744073709551617 2
+
+no_request
+no_request page 1 1092
+no_request Year 1 1092
+no_request '' 1 1092
+no_request year
+no_request year 1
+no_request year 1 ''
+no_request year '' 1092
+no_request year 1 1092 ''
+no_request year one 1092
+no_request year 1 MXCII
+no_request year 1 1092 x
+no_request year 1 -1092
+no_request year 1 +1092
+no_request year +1 1092
+no_request year 1 1092 -1
+no_request year 1 ' 1092'
+no_request year 1 '1092 '
+no_request year 1 10.92
+no_request year 0x1 1092
+no_request year 1 1092 1094 1096
+
+echo "every_year: 6000 years are the same ($lines lines in system 2), and so is what is refused"

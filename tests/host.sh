@@ -1,0 +1,37 @@
+#!/usr/bin/env bash
+# The example host: case 9 in all four kinds, refusals, and arguments that are no hex.
+set -euo pipefail
+cd "$(dirname "$0")/.."
+
+# Its exit status and output for some arguments, beside what is expected.
+expect() {
+    local expected=$1 came status=0
+    shift
+    came=$(build/store "$@" 2> /dev/null) || status=$?
+    [ "$status $came" = "$expected" ] && return
+    printf 'host: store %s\nexpected: %s\ncame: %s\n' "$*" "$expected" "$status $came" >&2
+    exit 1
+}
+
+stored='0 day 2120808
+record 0A 00 01 00 01 46 04 05 01 01'
+expect "$stored" 0A 00 01 00 01 46 04 05 01 01
+expect "$stored" '0A 00 02 00 01 46 04 05 01 25'
+expect "$stored" 0900030001 4604d000
+expect "$stored" 090004000168 ' 5c20 00 '
+
+expect '1 refused 1' ''
+expect '1 refused 3' 0A 00 04 00 01 68 5C 20 00
+expect '1 refused 6' 0A 00 01 00 01 46 04 06 01 01
+expect '1 refused 7' 09 00 03 00 01 46 04 81 01
+
+expect '2 '
+expect '2 ' 0
+expect '2 ' 0A 0
+expect '2 ' '0A 0 0'
+expect '2 ' 0G
+expect '2 ' 0x0A
+expect '2 ' -1
+told=$(build/store 0G 2>&1 > /dev/null || true)
+[ "${told%%:*}" = usage ] || { echo "host: no usage line, but: $told" >&2; exit 1; }
+echo "host: stored, refused and sent back as it must"

@@ -1,0 +1,358 @@
+//! The check of this program itself: the examples and the general facts of
+//! paper 01, with the paper's numbers written out.
+
+use crate::citation::store;
+use crate::lines::lines;
+use crate::reckoning::{name_of, Books, System, Table, FIRST_YEAR, LAST_YEAR};
+use crate::streams::citation_of;
+
+pub struct Checks {
+    pub passed: u64,
+    pub failures: Vec<String>,
+}
+
+impl Checks {
+    fn that(&mut self, holds: bool, what: impl Fn() -> String) {
+        if holds {
+            self.passed += 1;
+        } else {
+            self.failures.push(what());
+        }
+    }
+
+    fn same<T: PartialEq + std::fmt::Debug>(&mut self, what: &str, got: T, paper: T) {
+        self.that(got == paper, || format!("{}: got {:?}, the paper has {:?}", what, got, paper));
+    }
+}
+
+pub fn run(books: &Books) -> Checks {
+    let mut checks = Checks { passed: 0, failures: Vec::new() };
+    examples(books, &mut checks);
+    for system in 1..=2 {
+        let table = books.table(system).unwrap();
+        facts(table, &mut checks);
+        names(table, &mut checks);
+        carried_walk(table, &mut checks);
+        every_day(books, table, &mut checks);
+        every_stored_form(books, table, &mut checks);
+    }
+    checks
+}
+
+/// The refusal of a record stored with room enough, 0 when accepted.
+fn refusal(books: &Books, record: &[u8]) -> u8 {
+    store(books, record, 10).err().unwrap_or(0)
+}
+
+fn by_ordinal(books: &Books, system: u8, year: u16, ordinal: u16) -> u8 {
+    let (y, o) = (year.to_le_bytes(), ordinal.to_le_bytes());
+    refusal(books, &[9, 0, 3, 0, system, y[0], y[1], o[0], o[1]])
+}
+
+fn by_name(books: &Books, system: u8, year: u16, month: u8, leap: u8, name: u8) -> u8 {
+    let y = year.to_le_bytes();
+    refusal(books, &[10, 0, 2, 0, system, y[0], y[1], month, leap, name])
+}
+
+/// The paper's examples 1 to 10, and the other places where it gives the
+/// number of a day.
+fn examples(books: &Books, checks: &mut Checks) {
+    let guantian = books.table(1).unwrap();
+    let jiyuan = books.table(2).unwrap();
+
+    let y = guantian.year(1092);
+    checks.same("1, day", y.solstice_day, 2119895);
+    checks.same("1, name", name_of(y.solstice_day), 24);
+    checks.same("1, remainder", y.solstice_remainder, 2_320);
+
+    let moon = y.months[0].new_moon;
+    checks.same("2, parts before", y.solstice_parts - moon, 28_067);
+    checks.same("2, day", y.head, 2119892);
+    checks.same("2, first month's head", y.months[0].head, 2119892);
+    checks.same("2, name", name_of(y.head), 21);
+    checks.same("2, remainder", guantian.system.remainder_of(moon), 10_343);
+
+    checks.same("3, months", y.months.len(), 12);
+    checks.same("3, days", y.length(), 355);
+    checks.same("3, ordinal 355", by_ordinal(books, 1, 1092, 355), 0);
+    checks.same("3, ordinal 356", by_ordinal(books, 1, 1092, 356), 7);
+
+    checks.same("4, number", (y.months[0].number, y.months[0].leap), (11, false));
+    checks.same("4, days", y.months[0].length, 30);
+    checks.same("4, name 50", by_name(books, 1, 1092, 11, 0, 50), 0);
+    checks.same("4, name 51", by_name(books, 1, 1092, 11, 0, 51), 7);
+
+    let y = guantian.year(1094);
+    checks.same("5, head", y.head, 2120601);
+    checks.same("5, months", y.months.len(), 13);
+    checks.same("5, days", y.length(), 384);
+    checks.same("5, ordinal 385", by_ordinal(books, 1, 1094, 385), 7);
+
+    let eighth = &y.months[7];
+    checks.same("6, number", (eighth.number, eighth.leap), (5, true));
+    checks.same("6, head", eighth.head, 2120808);
+    checks.same("6, days", eighth.length, 29);
+
+    let y = jiyuan.year(1106);
+    checks.same("7, day", y.solstice_day, 2125008);
+    checks.same("7, name", name_of(y.solstice_day), 37);
+    checks.same("7, remainder", y.solstice_remainder, 4_536);
+
+    let moon = y.months[0].new_moon;
+    checks.same("8, parts before", y.solstice_parts - moon, 50_806);
+    checks.same("8, day", y.head, 2125001);
+    checks.same("8, name", name_of(y.head), 30);
+    checks.same("8, remainder", jiyuan.system.remainder_of(moon), 4_760);
+    checks.same("8, months", y.months.len(), 12);
+
+    let first = [0x0A, 0x00, 0x01, 0x00, 0x01, 0x46, 0x04, 0x05, 0x01, 0x01];
+    let second = [0x0A, 0x00, 0x02, 0x00, 0x01, 0x46, 0x04, 0x05, 0x01, 0x25];
+    let third = [0x09, 0x00, 0x03, 0x00, 0x01, 0x46, 0x04, 0xD0, 0x00];
+    let fourth = [0x09, 0x00, 0x04, 0x00, 0x01, 0x68, 0x5C, 0x20, 0x00];
+    let four: [&[u8]; 4] = [&first, &second, &third, &fourth];
+    for record in four {
+        checks.same("9, stored", store(books, record, 10), Ok((2120808, first)));
+        checks.same("9, no room", store(books, record, 9), Err(8));
+    }
+
+    let y = jiyuan.year(1108);
+    checks.same("10, months", y.months.len(), 13);
+    let leap: Vec<u8> = y.months.iter().filter(|m| m.leap).map(|m| m.number).collect();
+    checks.same("10, leap", leap, vec![11]);
+
+    // The program's own example: case 9's records and a stray byte; and no
+    // input at all.
+    let mut input = four.concat();
+    input.push(0);
+    let mut out = Vec::new();
+    lines(books, &input, &mut out).unwrap();
+    let expected = "G 1094 5* 1 2120808 37\n".repeat(4) + "refused 1\n";
+    checks.same("the program", String::from_utf8(out).unwrap(), expected);
+    let mut out = Vec::new();
+    lines(books, &[], &mut out).unwrap();
+    checks.same("the program on nothing", out.len(), 0);
+
+    // Two days of one name, sixty apart.
+    checks.same("shared name, first", name_of(2120808), 37);
+    checks.same("shared name, second", name_of(2120868), 37);
+}
+
+/// What the paper says of months and years in general, for every year.
+fn facts(table: &Table, checks: &mut Checks) {
+    let letter = table.system.letter;
+    for number in FIRST_YEAR..=LAST_YEAR {
+        let y = table.year(number);
+        let say = |what: &str| format!("{} {}: {}", letter, number, what);
+
+        for month in &y.months {
+            checks.that(month.length == 29 || month.length == 30, || say("a month's length"));
+            checks.that(month.middle_qi_held <= 1, || say("a month holds two middle qi"));
+            checks.that(month.leap == (month.middle_qi_held == 0), || say("a leap mark"));
+        }
+        checks.that([354, 355, 383, 384].contains(&y.length()), || say("the year's length"));
+
+        let lacking = y.months.iter().filter(|m| m.middle_qi_held == 0).count();
+        match y.months.len() {
+            12 => checks.that(lacking == 0, || say("one of twelve lacks a middle qi")),
+            13 => checks.that(lacking == 1, || say("not just one of thirteen lacks a middle qi")),
+            _ => checks.that(false, || say("neither twelve nor thirteen months")),
+        }
+
+        // The first month's new moon is the last at or before the solstice.
+        let first = &y.months[0];
+        checks.that(
+            first.new_moon <= y.solstice_parts && first.next_moon > y.solstice_parts,
+            || say("the first new moon"),
+        );
+
+        // Each numbered month stands there once, in the order of the paper,
+        // and a leap month bears the number of the month before it.
+        let plain: Vec<u8> = y.months.iter().filter(|m| !m.leap).map(|m| m.number).collect();
+        checks.that(plain == [11, 12, 1, 2, 3, 4, 5, 6, 7, 8, 9, 10], || say("the numbers"));
+        for i in 1..y.months.len() {
+            let (before, month) = (&y.months[i - 1], &y.months[i]);
+            checks.that(!month.leap || month.number == before.number, || say("a leap number"));
+        }
+
+        // The months tile the days: every day is in exactly one of them, and
+        // no month reaches outside of the year.
+        for day in y.head..y.next_head {
+            let holding =
+                y.months.iter().filter(|m| m.head <= day && day < m.head + m.length).count();
+            checks.that(holding == 1, || say("a day is not in exactly one month"));
+        }
+        let total: i128 = y.months.iter().map(|m| m.length).sum();
+        checks.that(total == y.length(), || say("the lengths do not add up"));
+        checks.that(y.next_head == table.year(number + 1).head, || say("the next head"));
+    }
+}
+
+/// The two rules for names agree: the name counted on from that of count day
+/// 0, day by day, is the name of the register day.
+fn names(table: &Table, checks: &mut Checks) {
+    let system = table.system;
+    let count_day_0 = -system.count_day_minus;
+    checks.that(name_of(count_day_0) as i128 == system.name_of_count_day_0, || {
+        format!("{}: the name of count day 0", system.letter)
+    });
+    // From count day 0 in whole sixties to just before the first year, then
+    // one name a day.
+    let mut day = count_day_0;
+    while day + 60 <= table.first_day {
+        day += 60;
+    }
+    let mut name = system.name_of_count_day_0;
+    while day < table.year(LAST_YEAR + 1).head {
+        checks.that(name_of(day) as i128 == name, || format!("{}: day {}", system.letter, day));
+        day += 1;
+        name = if name == 59 { 0 } else { name + 1 };
+    }
+}
+
+/// A moment kept as days, parts and small units, added to with carrying, and
+/// so never divided.
+#[derive(Clone, Copy, PartialEq, Eq, Debug)]
+struct Clock {
+    day: i64,
+    parts: i64,
+    small_units: i64,
+}
+
+impl Clock {
+    fn add(&mut self, system: &System, step: Clock) {
+        self.day += step.day;
+        self.parts += step.parts;
+        self.small_units += step.small_units;
+        if self.small_units >= system.small_units_in_part as i64 {
+            self.small_units -= system.small_units_in_part as i64;
+            self.parts += 1;
+        }
+        if self.parts >= system.parts_in_day as i64 {
+            self.parts -= system.parts_in_day as i64;
+            self.day += 1;
+        }
+    }
+}
+
+/// Solstices, qi and month heads once more, from the epoch by carried steps.
+/// The steps are written out; Guantian's qi step has the 12 small units that
+/// the paper puts in place of the printed 11.
+fn carried_walk(table: &Table, checks: &mut Checks) {
+    let system = table.system;
+    let clock = |day, parts, small_units| Clock { day, parts, small_units };
+    let (year_step, month_step, qi_step) = match system.number {
+        1 => (clock(365, 2_930, 0), clock(29, 6_383, 0), clock(15, 2_628, 12)),
+        _ => (clock(365, 1_776, 0), clock(29, 3_868, 0), clock(15, 1_592, 3)),
+    };
+    let register = |c: Clock| c.day as i128 - system.count_day_minus;
+
+    // Solstices: one year's step for every year elapsed.
+    let mut solstice = clock(0, 0, 0);
+    let before_year_1 = system.elapsed_at_known_year - (system.known_year - 1);
+    for _ in 0..before_year_1 {
+        solstice.add(system, year_step);
+    }
+    let mut moon = clock(0, 0, 0);
+    let end_of_moon = |moon: Clock| {
+        let mut next = moon;
+        next.add(system, month_step);
+        next
+    };
+    let at_or_before = |a: Clock, b: Clock| (a.day, a.parts, a.small_units) <= (b.day, b.parts, b.small_units);
+    for number in FIRST_YEAR..=LAST_YEAR + 1 {
+        let y = table.year(number);
+        let say = |what: &str| format!("{} {}: {} by carried steps", system.letter, number, what);
+        checks.that(
+            register(solstice) == y.solstice_day
+                && solstice.parts as i128 == y.solstice_remainder
+                && solstice.small_units == 0,
+            || say("solstice"),
+        );
+
+        let mut qi = solstice;
+        for i in 0..24 {
+            let expected = &y.qi[i];
+            checks.that(
+                register(qi) == expected.day
+                    && qi.parts as i128 == expected.parts
+                    && qi.small_units as i128 == expected.small_units,
+                || say(&format!("qi {}", i)),
+            );
+            qi.add(system, qi_step);
+        }
+        let mut next_solstice = solstice;
+        next_solstice.add(system, year_step);
+        checks.that(qi == next_solstice, || say("24 qi steps do not close on the year"));
+
+        // New moons: the last at or before the solstice, then each month.
+        while at_or_before(end_of_moon(moon), solstice) {
+            moon.add(system, month_step);
+        }
+        checks.that(register(moon) == y.head, || say("head"));
+        let mut month_moon = moon;
+        for month in &y.months {
+            checks.that(
+                register(month_moon) == month.head
+                    && month_moon.parts as i128 == system.remainder_of(month.new_moon),
+                || say("a month's head"),
+            );
+            month_moon.add(system, month_step);
+        }
+        checks.that(register(month_moon) == y.next_head, || say("next head"));
+        solstice = next_solstice;
+    }
+}
+
+/// Every day in all four kinds: the citation names the day that was walked
+/// to, and its stored record is the kind 1 record of that place.
+fn every_day(books: &Books, table: &Table, checks: &mut Checks) {
+    let system = table.system.number;
+    let mut day = table.first_day;
+    let mut year = FIRST_YEAR;
+    for place in &table.places {
+        // The year of a day, by the list of year heads.
+        while day >= table.year(year + 1).head {
+            year += 1;
+        }
+        checks.that(place.year as i128 == year, || format!("the year of day {}", day));
+        let stored = citation_of(system, 1, *place, day);
+        for kind in 1..=4 {
+            let result = store(books, &citation_of(system, kind, *place, day), 10);
+            checks.that(
+                matches!(result, Ok((d, record)) if d as i128 == day && record[..] == stored[..]),
+                || format!("system {}, kind {}, day {}: {:?}", system, kind, day, result),
+            );
+        }
+        day += 1;
+    }
+    checks.that(day == table.year(LAST_YEAR + 1).head, || "the last day walked to".to_string());
+    for outside in [table.first_day - 1, day] {
+        let d = (outside as u32).to_le_bytes();
+        checks.same("a day outside", refusal(books, &[9, 0, 4, 0, system, d[0], d[1], d[2], d[3]]), 7);
+    }
+}
+
+/// Every kind 1 record of these years that could be written: just as many are
+/// accepted as there are days, and no day is named twice.
+fn every_stored_form(books: &Books, table: &Table, checks: &mut Checks) {
+    let system = table.system.number;
+    let mut named = vec![0u8; table.places.len()];
+    let mut accepted = 0;
+    for year in FIRST_YEAR..=LAST_YEAR {
+        let y = (year as u16).to_le_bytes();
+        for month in 0..=13 {
+            for leap in 0..=2 {
+                for day in 0..=32 {
+                    let record = [10, 0, 1, 0, system, y[0], y[1], month, leap, day];
+                    if let Ok((d, stored)) = store(books, &record, 10) {
+                        accepted += 1;
+                        named[(d as i128 - table.first_day) as usize] += 1;
+                        checks.that(stored == record, || format!("{:?} is not its own record", record));
+                    }
+                }
+            }
+        }
+    }
+    checks.that(accepted == table.places.len(), || format!("{} kind 1 records accepted", accepted));
+    checks.that(named.iter().all(|n| *n == 1), || "a day has not just one record".to_string());
+}

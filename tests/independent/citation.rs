@@ -1,0 +1,149 @@
+//! What a citation names, what it is refused for, and how its day is stored.
+
+use crate::reckoning::{name_of, Books, Table, Year, FIRST_YEAR, LAST_YEAR};
+
+/// A stored citation: its register day and its ten bytes.
+pub type Stored = (u32, [u8; 10]);
+
+fn two_bytes(bytes: &[u8], at: usize) -> u32 {
+    bytes[at] as u32 + 256 * bytes[at + 1] as u32
+}
+
+fn four_bytes(bytes: &[u8], at: usize) -> u32 {
+    two_bytes(bytes, at) + 65_536 * two_bytes(bytes, at + 2)
+}
+
+/// The day that a citation names, or the first of refusals 1 to 7 that holds.
+pub fn named_day(books: &Books, input: &[u8]) -> Result<i128, u8> {
+    // 1: too short for a length and a kind
+    if input.len() < 4 {
+        return Err(1);
+    }
+    // 2: no such kind
+    let kind = two_bytes(input, 2);
+    let kinds_length = match kind {
+        1 => 10,
+        2 => 10,
+        3 => 9,
+        4 => 9,
+        _ => return Err(2),
+    };
+    // 3: the length told, or the input's own, is not that of the kind
+    if two_bytes(input, 0) != kinds_length || input.len() != kinds_length as usize {
+        return Err(3);
+    }
+    // 4: no such system
+    let table = match books.table(input[4]) {
+        Some(table) => table,
+        None => return Err(4),
+    };
+    if kind == 4 {
+        return by_day(table, four_bytes(input, 5) as i128);
+    }
+    // 5: no such year
+    let year = two_bytes(input, 5) as i128;
+    if year < FIRST_YEAR || year > LAST_YEAR {
+        return Err(5);
+    }
+    let year = table.year(year);
+    match kind {
+        1 => by_day_of_month(year, input[7], input[8], input[9]),
+        2 => by_name(year, input[7], input[8], input[9]),
+        _ => by_ordinal(year, two_bytes(input, 7)),
+    }
+}
+
+/// The days of the month with a number and a leap byte. 6: there can be no
+/// such month, or this year lacks the leap month asked for.
+fn days_of_month(year: &Year, number: u8, leap: u8) -> Result<std::ops::Range<i128>, u8> {
+    if number < 1 || number > 12 || leap > 1 {
+        return Err(6);
+    }
+    for month in &year.months {
+        if month.number == number && month.leap == (leap == 1) {
+            return Ok(month.head..month.head + month.length);
+        }
+    }
+    assert!(leap == 1, "a year lacks one of its twelve numbered months");
+    Err(6)
+}
+
+/// Kind 1: by counting the days of the month.
+fn by_day_of_month(year: &Year, number: u8, leap: u8, wanted: u8) -> Result<i128, u8> {
+    let mut day_of_month = 0;
+    for day in days_of_month(year, number, leap)? {
+        day_of_month += 1;
+        if day_of_month == wanted {
+            return Ok(day);
+        }
+    }
+    Err(7)
+}
+
+/// Kind 2: by looking for the name among the days of the month.
+fn by_name(year: &Year, number: u8, leap: u8, wanted: u8) -> Result<i128, u8> {
+    for day in days_of_month(year, number, leap)? {
+        if name_of(day) == wanted {
+            return Ok(day);
+        }
+    }
+    Err(7)
+}
+
+/// Kind 3: by counting the days of the year.
+fn by_ordinal(year: &Year, wanted: u32) -> Result<i128, u8> {
+    let mut ordinal = 0;
+    for day in year.head..year.next_head {
+        ordinal += 1;
+        if ordinal == wanted {
+            return Ok(day);
+        }
+    }
+    Err(7)
+}
+
+/// Kind 4: the day itself, if it belongs to years 1 to 3000.
+fn by_day(table: &Table, day: i128) -> Result<i128, u8> {
+    if day < table.year(FIRST_YEAR).head || day >= table.year(LAST_YEAR + 1).head {
+        return Err(7);
+    }
+    Ok(day)
+}
+
+/// The kind 1 record of a day of years 1 to 3000.
+pub fn stored_record(table: &Table, day: i128) -> [u8; 10] {
+    let place = table.place(day).expect("no place for an accepted day");
+    let [year_low, year_high] = place.year.to_le_bytes();
+    [
+        10,
+        0,
+        1,
+        0,
+        table.system.number,
+        year_low,
+        year_high,
+        place.month,
+        place.leap as u8,
+        place.day_of_month,
+    ]
+}
+
+/// The storing step, for an output of that many bytes.
+pub fn store(books: &Books, input: &[u8], output_length: usize) -> Result<Stored, u8> {
+    let day = named_day(books, input)?;
+    // 8: no room for the record
+    if output_length < 10 {
+        return Err(8);
+    }
+    let table = books.table(input[4]).unwrap();
+    Ok((day as u32, stored_record(table, day)))
+}
+
+/// What C is told: the day in the low 32 bits, the refusal above it; one of
+/// the two is 0.
+pub fn answer(result: &Result<Stored, u8>) -> u64 {
+    match result {
+        Ok((day, _)) => *day as u64,
+        Err(refusal) => 4_294_967_296 * *refusal as u64,
+    }
+}

@@ -1,0 +1,73 @@
+//! The program of paper 01: records from standard input, one line for each.
+
+use crate::citation::store;
+use crate::reckoning::{name_of, Books};
+use std::io::{self, Write};
+
+pub fn lines(books: &Books, input: &[u8], out: &mut impl Write) -> io::Result<()> {
+    let mut left = input;
+    // The end says nothing of its own, neither at once nor after a record.
+    while !left.is_empty() {
+        match first_record(left) {
+            Some(length) => {
+                writeln!(out, "{}", line(books, &left[..length]))?;
+                left = &left[length..];
+            }
+            None => {
+                // Something is left that is no record: the last line.
+                writeln!(out, "refused 1")?;
+                return Ok(());
+            }
+        }
+    }
+    Ok(())
+}
+
+/// The lines of every beginning of the input, from none of its bytes to as many
+/// as asked for, each after a line that tells how long it is.
+pub fn cuts(books: &Books, input: &[u8], longest: u64, out: &mut impl Write) -> io::Result<()> {
+    for length in 0..=input.len() {
+        if length as u64 > longest {
+            break;
+        }
+        writeln!(out, "cut {}", length)?;
+        lines(books, &input[..length], out)?;
+    }
+    Ok(())
+}
+
+/// The length of the record that comes first, if its length field can be
+/// believed and all of it is there. A single byte left holds no length field.
+fn first_record(left: &[u8]) -> Option<usize> {
+    if left.len() < 2 {
+        return None;
+    }
+    let length = left[0] as usize + 256 * left[1] as usize;
+    if length < 4 || length > 64 || length > left.len() {
+        return None;
+    }
+    Some(length)
+}
+
+/// The line of one record: its date, register day and name, or its refusal.
+/// The program's own output is long enough, so that 8 never applies.
+fn line(books: &Books, record: &[u8]) -> String {
+    match store(books, record, 10) {
+        Err(refusal) => format!("refused {}", refusal),
+        Ok((day, stored)) => {
+            let day = day as i128;
+            let table = books.table(stored[4]).unwrap();
+            let place = table.place(day).unwrap();
+            format!(
+                "{} {} {}{} {} {} {}",
+                table.system.letter,
+                place.year,
+                place.month,
+                if place.leap { "*" } else { "" },
+                place.day_of_month,
+                day,
+                name_of(day)
+            )
+        }
+    }
+}

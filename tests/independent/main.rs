@@ -1,0 +1,103 @@
+//! The independent check of the two day reckonings of paper 01: the same
+//! rules, found by plain searching, to be compared with the library.
+
+mod almanac;
+mod cases;
+mod citation;
+mod lines;
+mod random;
+mod reckoning;
+mod streams;
+
+use almanac::Number;
+use reckoning::{Books, Table, GUANTIAN, JIYUAN};
+use std::io::{self, BufWriter, Read, Write};
+use std::process::exit;
+
+const USAGE: &str = "usage:
+  independent almanac SYSTEM FIRST [LAST]
+  independent lines < records
+  independent cuts LONGEST < records
+  independent days SYSTEM
+  independent random SEED COUNT
+  independent stream SEED COUNT
+  independent cases";
+
+fn main() {
+    let arguments: Vec<String> = std::env::args().skip(1).collect();
+    let words: Vec<&str> = arguments.iter().map(|a| a.as_str()).collect();
+    let mut out = BufWriter::with_capacity(1 << 20, io::stdout().lock());
+    let written = match words[..] {
+        ["almanac", system, first] => almanac(system, first, first, &mut out),
+        ["almanac", system, first, last] => almanac(system, first, last, &mut out),
+        ["lines"] => lines::lines(&Books::new(), &records(), &mut out),
+        ["cuts", longest] => lines::cuts(&Books::new(), &records(), word(longest), &mut out),
+        ["days", "1"] => streams::days(&Table::new(&GUANTIAN), &mut out),
+        ["days", "2"] => streams::days(&Table::new(&JIYUAN), &mut out),
+        ["random", seed, count] => random(word(seed), word(count), &mut out),
+        ["stream", seed, count] => stream(word(seed), word(count), &mut out),
+        ["cases"] => cases(&mut out),
+        _ => usage(),
+    };
+    if let Err(error) = written.and_then(|_| out.flush()) {
+        eprintln!("independent: {}", error);
+        exit(1);
+    }
+}
+
+fn usage() -> ! {
+    eprintln!("{}", USAGE);
+    exit(2)
+}
+
+fn number(text: &str) -> Number {
+    Number::read(text).unwrap_or_else(|| usage())
+}
+
+fn word(text: &str) -> u64 {
+    text.parse().unwrap_or_else(|_| usage())
+}
+
+fn almanac(system: &str, first: &str, last: &str, out: &mut impl Write) -> io::Result<()> {
+    let (system, first, last) = (number(system), number(first), number(last));
+    almanac::pages(&Books::new(), &system, &first, &last, out)
+}
+
+/// All of standard input.
+fn records() -> Vec<u8> {
+    let mut input = Vec::new();
+    if let Err(error) = io::stdin().lock().read_to_end(&mut input) {
+        eprintln!("independent: {}", error);
+        exit(1);
+    }
+    input
+}
+
+fn random(seed: u64, count: u64, out: &mut impl Write) -> io::Result<()> {
+    eprintln!("independent: random seed {}", seed);
+    let tally = streams::random(&Books::new(), seed, count, out)?;
+    eprint!("independent: accepted {}", tally[0]);
+    for (refusal, times) in tally.iter().enumerate().skip(1) {
+        eprint!(", refused {}: {}", refusal, times);
+    }
+    eprintln!();
+    Ok(())
+}
+
+fn stream(seed: u64, count: u64, out: &mut impl Write) -> io::Result<()> {
+    eprintln!("independent: stream seed {}", seed);
+    streams::stream(&Books::new(), seed, count, out)
+}
+
+fn cases(out: &mut impl Write) -> io::Result<()> {
+    let checks = cases::run(&Books::new());
+    if checks.failures.is_empty() {
+        return writeln!(out, "independent: {} checks passed", checks.passed);
+    }
+    for failure in checks.failures.iter().take(20) {
+        writeln!(out, "independent: {}", failure)?;
+    }
+    writeln!(out, "independent: {} checks failed", checks.failures.len())?;
+    out.flush()?;
+    exit(1)
+}

@@ -1,0 +1,297 @@
+//! The reckoning of both systems, in whole numbers only, found by walking and
+//! searching. Nothing here turns a rule round: a year's first month is found
+//! by stepping from new moon to new moon, a month's number by trying every
+//! middle qi against it, a day's place by walking through the days.
+
+/// Paper 01, constants: one column of the table.
+pub struct System {
+    pub number: u8,
+    pub letter: char,
+    pub parts_in_day: i128,
+    pub parts_in_year: i128,
+    pub parts_in_month: i128,
+    pub small_units_in_part: i128,
+    pub known_year: i128,
+    pub elapsed_at_known_year: i128,
+    pub name_of_count_day_0: i128,
+    pub count_day_minus: i128,
+}
+
+pub const GUANTIAN: System = System {
+    number: 1,
+    letter: 'G',
+    parts_in_day: 12_030,
+    parts_in_year: 4_393_880,
+    parts_in_month: 355_253,
+    small_units_in_part: 36,
+    known_year: 1092,
+    elapsed_at_known_year: 5_944_808,
+    name_of_count_day_0: 0,
+    count_day_minus: 2_169_182_929,
+};
+
+pub const JIYUAN: System = System {
+    number: 2,
+    letter: 'J',
+    parts_in_day: 7_290,
+    parts_in_year: 2_662_626,
+    parts_in_month: 215_278,
+    small_units_in_part: 4,
+    known_year: 1100,
+    elapsed_at_known_year: 28_613_460,
+    name_of_count_day_0: 15,
+    count_day_minus: 10_448_760_934,
+};
+
+/// The years a request may name; the tables go one year further on each side.
+pub const FIRST_YEAR: i128 = 1;
+pub const LAST_YEAR: i128 = 3000;
+const TABLE_END: i128 = 3002;
+
+/// A part is cut into 24 times its small units, so that a twenty-fourth of
+/// any number of small units is still a whole number.
+const CUT: i128 = 24;
+
+impl System {
+    /// The winter solstice: a whole number of years after the epoch.
+    pub fn solstice_parts(&self, year: i128) -> i128 {
+        let elapsed = self.elapsed_at_known_year + (year - self.known_year);
+        elapsed * self.parts_in_year
+    }
+
+    /// The register day that a moment falls on: whole days since the epoch,
+    /// moved by the table's last row.
+    pub fn register_day_of(&self, parts: i128) -> i128 {
+        parts / self.parts_in_day - self.count_day_minus
+    }
+
+    /// The parts of that day that have passed at the moment.
+    pub fn remainder_of(&self, parts: i128) -> i128 {
+        parts % self.parts_in_day
+    }
+
+    /// A moment given in parts, in the finest units.
+    pub fn fine(&self, parts: i128) -> i128 {
+        parts * self.small_units_in_part * CUT
+    }
+
+    /// The moment of a qi, i equal steps of 24 after the solstice, exactly and
+    /// in the finest units, of which a step has Y * small units.
+    pub fn qi_fine(&self, year: i128, i: i128) -> i128 {
+        self.fine(self.solstice_parts(year)) + i * self.parts_in_year * self.small_units_in_part
+    }
+
+    /// The same as a day, and the parts and small units past its beginning.
+    fn qi(&self, year: i128, i: i128) -> Qi {
+        let moment = self.qi_fine(year, i);
+        let fine_in_part = self.small_units_in_part * CUT;
+        let fine_in_day = self.parts_in_day * fine_in_part;
+        let left_of_day = moment % fine_in_day;
+        let left_of_part = left_of_day % fine_in_part;
+        assert!(left_of_part % CUT == 0, "a qi falls between two small units");
+        Qi {
+            day: moment / fine_in_day - self.count_day_minus,
+            parts: left_of_day / fine_in_part,
+            small_units: left_of_part / CUT,
+        }
+    }
+}
+
+/// The sixty-day name, by one rule for both systems.
+pub fn name_of(register_day: i128) -> u8 {
+    (register_day + 49).rem_euclid(60) as u8
+}
+
+pub struct Qi {
+    pub day: i128,
+    pub parts: i128,
+    pub small_units: i128,
+}
+
+pub struct Month {
+    /// Its own new moon and the next one, in parts from the epoch.
+    pub new_moon: i128,
+    pub next_moon: i128,
+    pub head: i128,
+    pub length: i128,
+    pub number: u8,
+    pub leap: bool,
+    /// How many of the year's twelve middle qi it holds.
+    pub middle_qi_held: usize,
+}
+
+pub struct Year {
+    pub number: i128,
+    pub solstice_parts: i128,
+    pub solstice_day: i128,
+    pub solstice_remainder: i128,
+    pub qi: Vec<Qi>,
+    pub months: Vec<Month>,
+    pub head: i128,
+    pub next_head: i128,
+}
+
+impl Year {
+    /// Days from this year's head up to the day before the next year's head.
+    pub fn length(&self) -> i128 {
+        self.next_head - self.head
+    }
+}
+
+/// Where a day stands, noted down while walking through the days.
+#[derive(Clone, Copy, PartialEq, Eq, Debug)]
+pub struct Place {
+    pub year: u16,
+    pub month: u8,
+    pub leap: bool,
+    pub day_of_month: u8,
+    pub ordinal: u16,
+}
+
+/// All years of one system, and the place of every day of years 1 to 3000.
+pub struct Table {
+    pub system: &'static System,
+    pub years: Vec<Year>,
+    pub first_day: i128,
+    pub places: Vec<Place>,
+}
+
+impl Table {
+    pub fn new(system: &'static System) -> Table {
+        let years = all_years(system);
+        let mut first_day = None;
+        let mut places = Vec::new();
+        for year in &years {
+            if year.number < FIRST_YEAR || year.number > LAST_YEAR {
+                continue;
+            }
+            if first_day.is_none() {
+                first_day = Some(year.head);
+            }
+            let mut ordinal = 0;
+            for month in &year.months {
+                for day_of_month in 1..=month.length {
+                    ordinal += 1;
+                    places.push(Place {
+                        year: year.number as u16,
+                        month: month.number,
+                        leap: month.leap,
+                        day_of_month: day_of_month as u8,
+                        ordinal,
+                    });
+                }
+            }
+        }
+        Table { system, years, first_day: first_day.unwrap(), places }
+    }
+
+    /// The year of that number. The list begins with year 0, so a year's
+    /// number is also its place there.
+    pub fn year(&self, number: i128) -> &Year {
+        let year = &self.years[number as usize];
+        assert!(year.number == number);
+        year
+    }
+
+    /// The place of a register day, if it is a day of years 1 to 3000.
+    pub fn place(&self, day: i128) -> Option<Place> {
+        if day < self.first_day {
+            return None;
+        }
+        self.places.get((day - self.first_day) as usize).copied()
+    }
+}
+
+/// Both systems.
+pub struct Books {
+    guantian: Table,
+    jiyuan: Table,
+}
+
+impl Books {
+    pub fn new() -> Books {
+        Books { guantian: Table::new(&GUANTIAN), jiyuan: Table::new(&JIYUAN) }
+    }
+
+    pub fn table(&self, system: u8) -> Option<&Table> {
+        match system {
+            1 => Some(&self.guantian),
+            2 => Some(&self.jiyuan),
+            _ => None,
+        }
+    }
+}
+
+/// Years 0 to 3002, by one walk along the mean new moons. The first is the
+/// epoch itself, and each comes M parts after the one before it.
+fn all_years(system: &'static System) -> Vec<Year> {
+    // A year opens with the last new moon that is not after its solstice.
+    let mut moon = 0;
+    walk_to_last_at_or_before(system, &mut moon, system.solstice_parts(0));
+    let mut years = Vec::new();
+    for number in 0..=TABLE_END {
+        let first_moon = moon;
+        // The next year, found in the same way, ends it.
+        walk_to_last_at_or_before(system, &mut moon, system.solstice_parts(number + 1));
+        years.push(year_between(system, number, first_moon, moon));
+    }
+    years
+}
+
+/// Steps forward while the next new moon is still at or before the moment.
+fn walk_to_last_at_or_before(system: &System, moon: &mut i128, moment: i128) {
+    assert!(*moon <= moment);
+    while *moon + system.parts_in_month <= moment {
+        *moon += system.parts_in_month;
+    }
+}
+
+fn year_between(system: &System, number: i128, first_moon: i128, end_moon: i128) -> Year {
+    let mut months = Vec::new();
+    let mut moon = first_moon;
+    while moon < end_moon {
+        months.push(month_at(system, number, moon, months.last()));
+        moon += system.parts_in_month;
+    }
+    assert!(moon == end_moon);
+    let solstice_parts = system.solstice_parts(number);
+    Year {
+        number,
+        solstice_parts,
+        solstice_day: system.register_day_of(solstice_parts),
+        solstice_remainder: system.remainder_of(solstice_parts),
+        qi: (0..24).map(|i| system.qi(number, i)).collect(),
+        months,
+        head: system.register_day_of(first_moon),
+        next_head: system.register_day_of(end_moon),
+    }
+}
+
+fn month_at(system: &System, year: i128, new_moon: i128, before: Option<&Month>) -> Month {
+    // The numbers of the months that hold the year's middle qi, in order.
+    const NUMBERS: [u8; 12] = [11, 12, 1, 2, 3, 4, 5, 6, 7, 8, 9, 10];
+    let next_moon = new_moon + system.parts_in_month;
+    let mut held = Vec::new();
+    for j in 0..12 {
+        // A qi at the very moment of a new moon is in the month that begins.
+        let moment = system.qi_fine(year, 2 * j);
+        if moment >= system.fine(new_moon) && moment < system.fine(next_moon) {
+            held.push(NUMBERS[j as usize]);
+        }
+    }
+    // Without a middle qi of its own it repeats the number before it.
+    let leap = held.is_empty();
+    let number = if leap { before.expect("the first month is leap").number } else { held[0] };
+    // Its days run from the day of its new moon to the day before the next.
+    let head = system.register_day_of(new_moon);
+    let next = system.register_day_of(next_moon);
+    Month {
+        new_moon,
+        next_moon,
+        head,
+        length: next - head,
+        number,
+        leap,
+        middle_qi_held: held.len(),
+    }
+}

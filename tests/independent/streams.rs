@@ -1,0 +1,325 @@
+//! Streams of cases: frames for the storing step, and raw records for the
+//! program over standard input.
+//!
+//! A frame is: input length (1 byte), the input, output length (1 byte), the
+//! expected answer (8 bytes, little-endian), and then, where the input is
+//! accepted, the expected ten bytes.
+
+use crate::citation::{answer, store, Stored};
+use crate::random::Random;
+use crate::reckoning::{name_of, Books, Place, Table};
+use std::io::{self, Write};
+
+fn frame(
+    out: &mut impl Write,
+    input: &[u8],
+    output_length: usize,
+    result: &Result<Stored, u8>,
+) -> io::Result<()> {
+    out.write_all(&[input.len() as u8])?;
+    out.write_all(input)?;
+    out.write_all(&[output_length as u8])?;
+    out.write_all(&answer(result).to_le_bytes())?;
+    if let Ok((_, record)) = result {
+        out.write_all(record)?;
+    }
+    Ok(())
+}
+
+/// The citation of a day in one of the four kinds, from its place.
+pub fn citation_of(system: u8, kind: u8, place: Place, day: i128) -> Vec<u8> {
+    let year = place.year.to_le_bytes();
+    let leap = place.leap as u8;
+    match kind {
+        1 => vec![10, 0, 1, 0, system, year[0], year[1], place.month, leap, place.day_of_month],
+        2 => vec![10, 0, 2, 0, system, year[0], year[1], place.month, leap, name_of(day)],
+        3 => {
+            let ordinal = place.ordinal.to_le_bytes();
+            vec![9, 0, 3, 0, system, year[0], year[1], ordinal[0], ordinal[1]]
+        }
+        _ => {
+            let day = (day as u32).to_le_bytes();
+            vec![9, 0, 4, 0, system, day[0], day[1], day[2], day[3]]
+        }
+    }
+}
+
+/// Every day of years 1 to 3000 of one system in all four kinds. What is
+/// expected comes from the walk through the days, not from the citation.
+pub fn days(table: &Table, out: &mut impl Write) -> io::Result<()> {
+    let system = table.system.number;
+    let mut day = table.first_day;
+    let mut output_length = 10;
+    for place in &table.places {
+        let stored = citation_of(system, 1, *place, day);
+        let mut record = [0; 10];
+        record.copy_from_slice(&stored);
+        let expected = Ok((day as u32, record));
+        for kind in 1..=4 {
+            frame(out, &citation_of(system, kind, *place, day), output_length, &expected)?;
+            output_length = if output_length == 16 { 10 } else { output_length + 1 };
+        }
+        day += 1;
+    }
+    Ok(())
+}
+
+/// How often each answer came: accepted at 0, refused by its number.
+pub type Tally = [u64; 9];
+
+/// Random and damaged records.
+pub fn random(books: &Books, seed: u64, count: u64, out: &mut impl Write) -> io::Result<Tally> {
+    let mut random = Random::new(seed);
+    let maker = Maker::new(books);
+    let mut tally = [0; 9];
+    for _ in 0..count {
+        let input = maker.record(&mut random);
+        let lowest = if random.once_in(2) { 0 } else { 10 };
+        let output_length = random.between(lowest, 16);
+        let result = store(books, &input, output_length);
+        tally[match &result {
+            Ok(_) => 0,
+            Err(refusal) => *refusal as usize,
+        }] += 1;
+        frame(out, &input, output_length, &result)?;
+    }
+    Ok(tally)
+}
+
+/// Records one after another whose length fields hold, then some ending.
+pub fn stream(books: &Books, seed: u64, count: u64, out: &mut impl Write) -> io::Result<()> {
+    let mut random = Random::new(seed);
+    let maker = Maker::new(books);
+    for _ in 0..count {
+        let mut record = maker.record(&mut random);
+        if random.once_in(20) {
+            let longer = random.between(4, 64);
+            while record.len() < longer {
+                record.push(random.byte());
+            }
+        }
+        while record.len() < 4 {
+            record.push(random.byte());
+        }
+        record[0] = record.len() as u8;
+        record[1] = 0;
+        out.write_all(&record)?;
+    }
+    out.write_all(&ending(&maker, &mut random))
+}
+
+fn ending(maker: &Maker, random: &mut Random) -> Vec<u8> {
+    let mut end = Vec::new();
+    match random.below(6) {
+        // Nothing after the last record.
+        0 => {}
+        // A single byte.
+        1 => end.push(random.pick(&[0, 4, 9, 10, 255])),
+        // A record that is cut.
+        2 => {
+            end = maker.valid(random);
+            let kept = random.between(1, end.len() - 1);
+            end.truncate(kept);
+        }
+        // A length field below 4, with bytes after it.
+        3 => {
+            end.extend([random.below(4) as u8, 0]);
+            garbage(random, &mut end);
+        }
+        // A length field above 64, with that many bytes or fewer after it;
+        // some would read as a fair length if their high byte were lost.
+        4 => {
+            let length = random.pick(&[65, 66, 100, 255, 256, 257, 266, 300, 65_535]);
+            end.extend([(length % 256) as u8, (length / 256) as u8]);
+            for _ in 0..random.below(400) {
+                end.push(random.byte());
+            }
+        }
+        // Anything.
+        _ => garbage(random, &mut end),
+    }
+    end
+}
+
+fn garbage(random: &mut Random, end: &mut Vec<u8>) {
+    for _ in 0..random.between(1, 40) {
+        end.push(random.byte());
+    }
+}
+
+/// Makes records, sound ones and damaged ones.
+struct Maker<'a> {
+    books: &'a Books,
+    /// Days in leap months, by system: rare, so they are kept apart.
+    leap_days: [Vec<usize>; 2],
+    /// Register days at the edges of what is accepted.
+    edges: Vec<u32>,
+}
+
+impl<'a> Maker<'a> {
+    fn new(books: &'a Books) -> Maker<'a> {
+        let mut leap_days = [Vec::new(), Vec::new()];
+        let mut edges = vec![0, 1, u32::MAX - 1, u32::MAX];
+        for system in 1..=2 {
+            let table = books.table(system).unwrap();
+            for (i, place) in table.places.iter().enumerate() {
+                if place.leap {
+                    leap_days[system as usize - 1].push(i);
+                }
+            }
+            for head in [table.year(1).head, table.year(3001).head] {
+                for near in head - 3..=head + 3 {
+                    edges.push(near as u32);
+                }
+            }
+        }
+        Maker { books, leap_days, edges }
+    }
+
+    /// A record that nothing speaks against, of any kind and system.
+    fn valid(&self, random: &mut Random) -> Vec<u8> {
+        let system = random.between(1, 2);
+        let table = self.books.table(system as u8).unwrap();
+        let days = table.places.len();
+        let i = match random.below(8) {
+            0 | 1 => random.pick(&self.leap_days[system - 1]),
+            2 => random.below(800),
+            3 => days - 1 - random.below(800),
+            _ => random.below(days),
+        };
+        let kind = random.between(1, 4) as u8;
+        citation_of(system as u8, kind, table.places[i], table.first_day + i as i128)
+    }
+
+    /// A record with no damage, some or much.
+    fn record(&self, random: &mut Random) -> Vec<u8> {
+        if random.once_in(25) {
+            return (0..random.between(0, 20)).map(|_| random.byte()).collect();
+        }
+        let mut record = self.valid(random);
+        let damages = random.pick(&[0, 0, 1, 1, 1, 1, 1, 2, 2, 3]);
+        for _ in 0..damages {
+            self.damage(random, &mut record);
+        }
+        record
+    }
+
+    /// One damage, or a change that happens to be none.
+    fn damage(&self, random: &mut Random, record: &mut Vec<u8>) {
+        let kind = record.get(2).copied().unwrap_or(0);
+        match random.below(18) {
+            // The length field.
+            0 => {
+                let length = record.len();
+                let any = random.below(65_536);
+                let field =
+                    random.pick(&[0, 4, 8, 9, 10, 11, length, length + 1, length + 256, 2570, 65_535, any]);
+                put_two(record, 0, field);
+            }
+            // The kind, its high byte too.
+            1 => {
+                let any = random.below(65_536);
+                let high = kind as usize + 256 * random.between(1, 255);
+                let field = random.pick(&[0, 5, 6, 255, 256, 257, 512, 1024, 65_535, high, high, any]);
+                put_two(record, 2, field);
+            }
+            // Another kind from 1 to 4, with nothing else changed.
+            2 => put_two(record, 2, random.between(1, 4)),
+            // Another kind, with the length and the length field made to fit.
+            3 => {
+                let other = random.between(1, 4);
+                let length = if other <= 2 { 10 } else { 9 };
+                record.resize(length, random.byte());
+                put_two(record, 0, length);
+                put_two(record, 2, other);
+            }
+            // The system.
+            4 | 5 => {
+                let any = random.byte();
+                let system = random.pick(&[0, 3, 255, 1, 2, any]);
+                put(record, 4, system);
+            }
+            // The year, or the low half of the register day.
+            6 | 7 => {
+                let any = random.below(65_536);
+                let near = random.between(1, 3000);
+                let year = random.pick(&[0, 1, 2999, 3000, 3001, 3002, 65_535, 256, any, near]);
+                put_two(record, 5, year);
+            }
+            // The month.
+            8 if kind <= 2 => {
+                let any = random.byte();
+                let month = random.pick(&[0, 1, 11, 12, 13, 255, any]);
+                put(record, 7, month);
+            }
+            9 if kind <= 2 => put(record, 7, random.between(1, 12) as u8),
+            // The leap byte; most months are not leap.
+            10 if kind <= 2 => {
+                let any = random.byte();
+                let leap = random.pick(&[0, 1, 1, 2, 3, 255, any]);
+                put(record, 8, leap);
+            }
+            // The day of the month, or the name.
+            8..=11 if kind <= 2 => {
+                let any = random.byte();
+                let day = random.pick(&[0, 1, 29, 30, 31, 32, 59, 60, 61, 128, 255, any]);
+                put(record, 9, day);
+            }
+            12 if kind <= 2 => put(record, 9, random.below(60) as u8),
+            // The ordinal.
+            8..=12 if kind == 3 => {
+                let any = random.below(65_536);
+                let near = random.between(354, 385);
+                let ordinal = random.pick(&[0, 1, near, near, near, near, 256, 512, 65_535, any]);
+                put_two(record, 7, ordinal);
+            }
+            // The register day.
+            8..=12 => {
+                let any = random.next() as u32;
+                let edge = random.pick(&self.edges);
+                let day = random.pick(&[edge, edge, edge, edge, any]);
+                put_two(record, 5, day as usize % 65_536);
+                put_two(record, 7, day as usize / 65_536);
+            }
+            // Any byte, or one bit of it.
+            13 if !record.is_empty() => {
+                let at = random.below(record.len());
+                record[at] = random.byte();
+            }
+            14 if !record.is_empty() => {
+                let at = random.below(record.len());
+                record[at] ^= 1 << random.below(8);
+            }
+            // Cut, the length field left or made to fit.
+            15 | 13 | 14 => {
+                let length = random.below(record.len() + 1);
+                record.truncate(length);
+                if random.once_in(3) {
+                    put_two(record, 0, length);
+                }
+            }
+            16 => record.truncate(random.below(5)),
+            // Lengthened, the length field left or made to fit.
+            _ => {
+                let length = random.between(record.len(), 20);
+                while record.len() < length {
+                    record.push(random.byte());
+                }
+                if random.once_in(3) {
+                    put_two(record, 0, length);
+                }
+            }
+        }
+    }
+}
+
+fn put(record: &mut [u8], at: usize, value: u8) {
+    if at < record.len() {
+        record[at] = value;
+    }
+}
+
+fn put_two(record: &mut [u8], at: usize, value: usize) {
+    put(record, at, (value % 256) as u8);
+    put(record, at + 1, (value / 256 % 256) as u8);
+}

@@ -1,0 +1,49 @@
+/* Null pointers with length 0, and the accessors of the header. */
+
+#include <chiselbrow.h>
+#include <stdio.h>
+#include <string.h>
+
+static int failures;
+
+static void expect(const char *what, uint64_t answer, unsigned refusal, uint32_t day)
+{
+    if (chiselbrow_refusal(answer) == refusal && chiselbrow_day(answer) == day)
+        return;
+    fprintf(stderr, "null: %s: refusal %u, day %lu\n", what, chiselbrow_refusal(answer),
+            (unsigned long)chiselbrow_day(answer));
+    failures++;
+}
+
+int main(void)
+{
+    const uint8_t cited[CHISELBROW_DAY_SIZE] = {9, 0, 4, 0, 1, 0x68, 0x5C, 0x20, 0};
+    const uint8_t no_system[CHISELBROW_DAY_SIZE] = {9, 0, 4, 0, 3, 0x68, 0x5C, 0x20, 0};
+    uint8_t output[12], before[12];
+
+    memset(output, 0xA5, sizeof output);
+    memcpy(before, output, sizeof output);
+    expect("no input", chiselbrow_store(NULL, 0, output, sizeof output),
+           CHISELBROW_REFUSED_SHORT, 0);
+    if (memcmp(output, before, sizeof output) != 0) {
+        fprintf(stderr, "null: no input, and yet the output was changed\n");
+        failures++;
+    }
+    expect("neither", chiselbrow_store(NULL, 0, NULL, 0), CHISELBROW_REFUSED_SHORT, 0);
+    expect("no output", chiselbrow_store(cited, sizeof cited, NULL, 0),
+           CHISELBROW_REFUSED_OUTPUT, 0);
+    expect("no output, no such system", chiselbrow_store(no_system, sizeof no_system, NULL, 0),
+           CHISELBROW_REFUSED_SYSTEM, 0);
+    expect("both there", chiselbrow_store(cited, sizeof cited, output, sizeof output),
+           CHISELBROW_ACCEPTED, 2120808);
+
+    /* Answers written out, so that the accessors are held to the layout. */
+    expect("accepted, written out", UINT64_C(2120808), 0, 2120808);
+    expect("refused 8, written out", UINT64_C(8) << 32, 8, 0);
+    expect("the largest day", UINT64_C(0xFFFFFFFF), 0, 0xFFFFFFFFu);
+
+    if (failures != 0)
+        return 1;
+    printf("null: empty buffers are refused as they must be\n");
+    return 0;
+}
