@@ -141,11 +141,12 @@ module _ (c : Constants) (ok : Consistent c) where
   -- The middle qi that a month of a year holds is one of that year.
   pub qi-of-its-year : (n k : ℕ) → InYear c n k → (h : HoldsSome c k) → h .year ≡ n
   qi-of-its-year n k i h =
-      omega
-      ( arith
-      , h .is-middle
-      , qi-of-held K (12 * h .year + h .index) k (month-of-held c ok k (h .year) (h .index) (h .holds))
-      , year-unique K n k (within c ok n k i) )
+      omega (
+        arith,
+        h .is-middle,
+        qi-of-held K (12 * h .year + h .index) k (month-of-held c ok k (h .year) (h .index) (h .holds)),
+        year-unique K n k (within c ok n k i),
+      )
 
   -- Each month of a year has its number and its leap mark,
   pub named : (n k : ℕ) → InYear c n k → MonthNamed c n (monthNumber c k) (leapMark c k) k

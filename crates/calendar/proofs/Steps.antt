@@ -52,10 +52,11 @@ jiyuan-step = refl
 
 -- Qi 0 is the winter solstice.
 pub qi-zero : (c : Constants) → Consistent c → (n : ℕ)
-  → (dayOf c (qi c n 0) ≡ solsticeDay c n) × (partsOf c (qi c n 0) ≡ solsticeRemainder c n) × (unitsOf c (qi c n 0) ≡ 0)
+    → (dayOf c (qi c n 0) ≡ solsticeDay c n) × (partsOf c (qi c n 0) ≡ solsticeRemainder c n) × (unitsOf c (qi c n 0) ≡ 0)
 qi-zero c ok n =
     let here : qi c n 0 ≡ solstice c n * c .units = omega arith in
-    let whole : qi c n 0 / c .units ≡ solstice c n = ap (λ u. u / c .units) here ∙ mul-div-cancel (solstice c n) (ok .units-some) in
-    ( ap (λ t. t / c .day) whole
-    , ap (λ t. t % c .day) whole
-    , omega (arith, div-add-mod' (qi c n 0) (c .units), ap (λ t. t * c .units) whole) )
+    let whole : qi c n 0 / c .units ≡ solstice c n = ap (λ u. u / c .units) here ∙ mul-div-cancel (solstice c n) (ok .units-some) in (
+      ap (λ t. t / c .day) whole,
+      ap (λ t. t % c .day) whole,
+      omega (arith, div-add-mod' (qi c n 0) (c .units), ap (λ t. t * c .units) whole),
+    )

@@ -1,5 +1,5 @@
 -- Stored records are canonical: equal just when they name the same day in the same system.
-use Prim.Native.Nat.{ℕ, _+_, _*_, _-_, _/_, _%_, _≤_, _<_}
+use Prim.Native.Nat.{ℕ, _^_, _≤_, _<_}
 use mathlib.Core.Path.{_≡_, refl, subst, ap, sym, _∙_}
 use mathlib.Core.List.{List, [], _∷_, _++_}
 use native.Mathlib.Omega.{arith}
@@ -7,7 +7,10 @@ use lib.ListN.{length, getD, take, drop}
 use Rattle.calendar.specs.Inside.{Inside}
 use Rattle.calendar.specs.Systems.{constantsOf, yearsElapsed}
 use Rattle.calendar.specs.Year.{DayOfYear}
-use Rattle.calendar.proofs.Rising.{by-order}
+use Rattle.calendar.proofs.EachSystem.{consistent}
+use Rattle.calendar.proofs.Reckoned.{reckoned}
+use Rattle.calendar.proofs.Spans.{within}
+use Rattle.reckoning.proofs.Scope.{reach}
 use Rattle.reckoning.specs.declared.data.Date.{Date}
 use Rattle.reckoning.specs.Scope.{InScope}
 use Rattle.reckoning.specs.Requests.{dateOf}
@@ -17,6 +20,7 @@ use Rattle.citation.specs.Record.{byte, Bytes, lengthField, kindOf, syst
 use Rattle.citation.specs.Named.{constantsIn, Names, OnDate}
 use Rattle.reckoning.specs.Rows.{FirstOf}
 use Rattle.citation.specs.Refused.{Accepted, citationRows}
+use Rattle.citation.specs.Demanded.{stored}
 use Rattle.citation.specs.Store.{judgeOf, refusalOf, answerOf, storedInto}
 use Rattle.citation.proofs.Rows.{first-unique}
 use Rattle.citation.proofs.OneDay.{names-unique}
@@ -26,10 +30,6 @@ use Rattle.citation.proofs.Judged.{Judged, Kept}
 use Rattle.citation.proofs.Refusals.{judged}
 use Rattle.citation.proofs.Storing.{refusal-none, answer-accepted, output-accepted}
 use Rattle.citation.proofs.TenBytes.{elements, elements-all}
-
--- The first ten bytes of an output after a storing.
-abbrev pub stored : List ℕ → List ℕ → List ℕ
-stored s before = take 10 (storedInto s before)
 
 -- An accepted citation's judgement is no refusal, and keeps the day that it names.
 pub record Passed (s : List ℕ) : Type 0 where
@@ -43,18 +43,29 @@ passed s a = go (judged s)
     go (Judged.refused number some e rows) = absurd (omega (arith, first-unique (citationRows s) number 0 rows a))
     go (Judged.accepted z rows kept) = record { no-refusal = z; kept = kept }
 
+-- The day fits 32 bits, so that the answer tells day and refusal apart.
+pub day-fits : (s : List ℕ) → Accepted s → (judgeOf s) .day .0 < 2 ^ 32
+day-fits s a =
+    let d = passed s a .kept .dated in
+    let c = constantsOf (systemOf s) in
+    let ok = consistent (systemOf s) in
+    let year = passed s a .kept .year in
+    let w = within c ok (yearsElapsed c year) (d .k) (d .named .in-year) in
+    let head = (reach (systemOf s) year (d .in-scope .year-inside)) .head (d .k) (w .0) (omega arith) in
+    omega (arith, d .placed, d .day-is, (reckoned c ok) .month-most (d .k))
+
 module _ (s before : List ℕ) (a : Accepted s) (room : 10 ≤ length before) where
   abbrev κ : Kept s (judgeOf s)
   κ = passed s a .kept
 
-  none : refusalOf s (length before) ≡ 0
-  none = refusal-none s (length before) (judgeOf s) refl (passed s a .no-refusal) room
+  pub no-refusal : refusalOf s (length before) ≡ 0
+  no-refusal = refusal-none s (length before) (judgeOf s) refl (passed s a .no-refusal) room
 
   pub answer-is : answerOf s (length before) ≡ (judgeOf s) .day .0
-  answer-is = sym (answer-accepted s (judgeOf s) refl (length before) none)
+  answer-is = sym (answer-accepted s (judgeOf s) refl (length before) no-refusal)
 
   whole-output : recordOf (systemOf s) (κ .year) (κ .month) (κ .leap) (κ .day) ++ drop 10 before ≡ storedInto s before
-  whole-output = sym (ap (λ t. t ++ drop 10 before) (κ .stored)) ∙ output-accepted s (judgeOf s) refl before none
+  whole-output = sym (ap (λ t. t ++ drop 10 before) (κ .stored)) ∙ output-accepted s (judgeOf s) refl before no-refusal
 
   -- the first ten bytes are the record of the day's date, and the rest is left
   pub stored-is : stored s before ≡ recordOf (systemOf s) (κ .year) (κ .month) (κ .leap) (κ .day)

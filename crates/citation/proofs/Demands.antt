@@ -1,10 +1,9 @@
--- The customer's three demands, each sentence a theorem. What they speak of is defined in specs/ and in the calendar's
--- specs/; the storing step and the requests are proved to answer by `answerOf`, `storedInto`, `yearOf` and their like.
-use Prim.Native.Nat.{ℕ, _+_, _*_, _^_, _≤_}
+-- The customer's three demands as theorems. What they speak of is defined in the specs/ of the crates. The code is proved
+-- to answer by `answerOf`, `storedInto`, `yearOf` and their like, for every input; that it ends, the language guarantees.
+use Prim.Native.Nat.{ℕ, _*_, _^_, _≤_, _<_}
 use mathlib.Core.Path.{_≡_, refl, subst, sym, ap, _∙_}
 use mathlib.Core.Logic.{_⊎_, _↔_}
 use mathlib.Core.List.{List}
-use native.Mathlib.Omega.{arith}
 use lib.ListN.{length, drop}
 use Rattle.calendar.specs.declared.data.Constants.{Constants}
 use Rattle.calendar.specs.ExactlyOne.{ExactlyOne}
@@ -16,7 +15,12 @@ use Rattle.calendar.proofs.EachSystem.{consistent}
 use Rattle.calendar.proofs.Spans.{span}
 use Rattle.calendar.proofs.Laws.{month-days, year-months, months-cover, months-stay-within, twelve-none-lacks, thirteen-one-leap}
 use Rattle.reckoning.specs.Scope.{InScope}
-use Rattle.reckoning.specs.Requests.{yearOf, solsticeOf, qiOf, sheetOf}
+use Rattle.reckoning.specs.Rows.{yearRows, qiRows}
+use Rattle.reckoning.specs.Refusal.{yearRefusal, qiRefusal}
+use Rattle.reckoning.specs.Requests.{solsticeOf, noSolstice, qiOf, noQi, yearOf, noYear, sheetOf, noSheet, daysOf, monthOf, dateOf}
+use Rattle.reckoning.specs.Outcomes.{DaysOutcome, MonthOutcome, DateOutcome}
+use Rattle.reckoning.proofs.Blanks as Blanks
+use Rattle.reckoning.proofs.Outcomes as Outcomes
 use Rattle.reckoning.specs.YearValue.{ListsMonths, Tiled}
 use Rattle.reckoning.specs.Held.{IsSolstice, IsQi, IsSheet}
 use Rattle.reckoning.proofs.MonthsHeld as MonthsHeld
@@ -32,23 +36,55 @@ use Rattle.citation.proofs.StoredRecord.{record-accepted, record-names}
 use Rattle.citation.proofs.Refusals as Refusals
 use Rattle.citation.proofs.Storing.{answer-refused, output-refused}
 use Rattle.citation.proofs.Canonical as Canonical
-use Rattle.citation.proofs.Canonical.{stored, passed}
+use Rattle.citation.specs.Demanded.{stored, OneRecord, MonthsTile}
+use Rattle.citation.proofs.Canonical.{passed}
 use Rattle.citation.proofs.KindOne as KindOne
 
--- Demand 1. Any bytes may be handed in: the refusal given is the first of the table that applies, and 0, none, where
--- none does;
+-- Demand 1. Whatever the bytes, the storing step gives the first refusal of the table that applies, and 0 where none
+-- does;
 pub refusal-is-the-first : (s : List ℕ) (room : ℕ) → FirstOf (storingRows s room) (refusalOf s room)
 refusal-is-the-first = Refusals.refusal-first
 
 pub no-other-refusal : (s : List ℕ) (room number : ℕ) → FirstOf (storingRows s room) number → number ≡ refusalOf s room
 no-other-refusal = Refusals.refusal-only
 
--- a refusal answers day 0 with its number, and changes no byte of the output.
+-- refused, it answers day 0 with the number and leaves the output as it was.
 pub refused-answer : (s : List ℕ) (room : ℕ) → (refusalOf s room ≡ 0 → ⊥) → refusalOf s room * 2 ^ 32 ≡ answerOf s room
 refused-answer s room some = answer-refused s (refusalOf s room) some room refl
 
 pub refused-changes-nothing : (s before : List ℕ) → (refusalOf s (length before) ≡ 0 → ⊥) → before ≡ storedInto s before
 refused-changes-nothing s before some = output-refused s (refusalOf s (length before)) some before refl
+
+-- The requests by system and year are refused by their tables too,
+pub year-refusal-is-the-first : (system year : ℕ) → FirstOf (yearRows system year) (yearRefusal system year)
+year-refusal-is-the-first = Blanks.year-refusal-first
+
+pub qi-refusal-is-the-first : (system year q : ℕ) → FirstOf (qiRows system year q) (qiRefusal system year q)
+qi-refusal-is-the-first = Blanks.qi-refusal-first
+
+-- and then give their blanks with the number.
+module _ (system year : ℕ) (some : yearRefusal system year ≡ 0 → ⊥) where
+  pub solstice-blank : solsticeOf system year ≡ noSolstice (yearRefusal system year)
+  solstice-blank = Blanks.solstice-blank system year some
+
+  pub months-blank : yearOf system year ≡ noYear (yearRefusal system year)
+  months-blank = Blanks.year-blank system year some
+
+  pub sheet-blank : sheetOf system year ≡ noSheet (yearRefusal system year)
+  sheet-blank = Blanks.sheet-blank system year some
+
+pub qi-blank : (system year q : ℕ) → (qiRefusal system year q ≡ 0 → ⊥) → qiOf system year q ≡ noQi (qiRefusal system year q)
+qi-blank = Blanks.qi-blank
+
+-- How the other three requests end: refused by the table, or found.
+pub days-end : (system year : ℕ) → DaysOutcome system year (daysOf system year)
+days-end = Outcomes.days-outcome
+
+pub month-ends : (system year number leap : ℕ) → MonthOutcome system year number leap (monthOf system year number leap)
+month-ends = Outcomes.month-outcome
+
+pub date-ends : (system r : ℕ) → DateOutcome system r (dateOf system r)
+date-ends = Outcomes.date-outcome
 
 -- Demand 2. For systems 1 and 2 and years 1 to 3000, solstice, qi, months and day names are those of the reckoning.
 module _ (system year : ℕ) (i : InScope system year) where
@@ -88,7 +124,17 @@ module _ (s before : List ℕ) (a : Accepted s) (room : 10 ≤ length before) (r
   pub answers-its-day : answerOf s (length before) ≡ r
   answers-its-day = Canonical.answer-is s before a room ∙ same-day
 
-  -- the first ten bytes are a record of kind 1 that names the day in the same system, and the rest is left.
+  pub is-not-refused : refusalOf s (length before) ≡ 0
+  is-not-refused = Canonical.no-refusal s before a room
+
+  pub day-fits : r < 2 ^ 32
+  day-fits = subst (λ x. x < 2 ^ 32) same-day (Canonical.day-fits s a)
+
+  -- its first ten bytes are the record of the day's date: a citation of kind 1 for the same day in the same system.
+  pub stores-its-date : (year month leap day : ℕ) → OnDate (systemOf s) r year month leap day
+      → stored s before ≡ recordOf (systemOf s) year month leap day
+  stores-its-date year month leap day d = Canonical.stored-of-date s before a room (systemOf s) r year month leap day refl m d
+
   pub stores-its-day : Names (stored s before) r
   stores-its-day = subst (Names (stored s before)) same-day (Canonical.stored-names s before a room)
 
@@ -98,11 +144,12 @@ module _ (s before : List ℕ) (a : Accepted s) (room : 10 ≤ length before) (r
   pub stores-its-system : systemOf (stored s before) ≡ systemOf s
   stores-its-system = Canonical.stored-system s before a room
 
+  -- The rest of the output is left.
   pub leaves-the-rest : drop 10 (storedInto s before) ≡ drop 10 before
   leaves-the-rest = Canonical.rest-left s before a room
 
--- Demand 3. Take any two accepted citations and store each, whatever the lent outputs held before. Their stored records
--- are equal exactly when they name the same day in the same system.
+-- Demand 3. Two accepted citations of any kinds and systems, stored over whatever their outputs held: the records are
+-- equal just when system and day are.
 pub equal-exactly-when : (s before t under : List ℕ) → Accepted s → 10 ≤ length before → Accepted t → 10 ≤ length under
     → (r q : ℕ) → Names s r → Names t q
     → (stored s before ≡ stored t under) ↔ ((systemOf s ≡ systemOf t) × (r ≡ q))
@@ -124,7 +171,7 @@ equal-exactly-when s before t under a room b space r q m o = (λ e. (same-system
         (subst (λ x. OnDate (systemOf t) x (κ .year) (κ .month) (κ .leap) (κ .day)) (day ∙ sym f) (κ .dated))
         ∙ sym (Canonical.stored-is t under b space)
 
--- A stored record handed in again is accepted and gives the same ten bytes.
+-- Storing a stored record once more is accepted, and changes nothing.
 pub stored-again-accepted : (s before : List ℕ) → Accepted s → 10 ≤ length before → Accepted (stored s before)
 stored-again-accepted s before a room = Canonical.stored-accepted s before a room
 
@@ -136,46 +183,29 @@ stored-again-same s before under a room space =
     equal-exactly-when (stored s before) under s before again space a room ((judgeOf s) .day .0) ((judgeOf s) .day .0) names (passed s a .kept .names)
     .1 (Canonical.stored-system s before a room, refl)
 
--- In each system every day of those years has exactly one stored record: it names that day, every storing that names the
--- day gives it, and every other accepted citation of kind 1 names another day or another system.
-pub record OneRecord (system r : ℕ) : Type 0 where
-  pub it : List ℕ
-  pub accepted : Accepted it
-  pub is-kind-one : kindOf it ≡ 1
-  pub in-system : systemOf it ≡ system
-  pub names : Names it r
-  pub every-storing : (s before : List ℕ) → Accepted s → 10 ≤ length before → systemOf s ≡ system → Names s r → stored s before ≡ it
-  pub no-other : (t : List ℕ) → Bytes t → Accepted t → kindOf t ≡ 1 → systemOf t ≡ system → Names t r → t ≡ it
-
-pub every-day-has-one-record : (system year r : ℕ) → InScope system year
-    → DayOfYear (constantsOf system) (yearsElapsed (constantsOf system) year) (r + constantsOf system .anchor)
-    → OneRecord system r
-every-day-has-one-record system year r i d =
-    let x = KindOne.dated system year r i d in
+-- In each system, every day of those years has one stored record.
+pub every-day-has-one-record : (system year d : ℕ) → InScope system year
+    → DayOfYear (constantsOf system) (yearsElapsed (constantsOf system) year) d
+    → OneRecord system d
+every-day-has-one-record system year d i y =
+    let r = KindOne.registered system year d i y in
+    let x = KindOne.dated system year (r .0) i (subst (DayOfYear (constantsOf system) (yearsElapsed (constantsOf system) year)) (sym (r .1)) y) in
     record {
+      day = r .0;
+      is-day = r .1;
       it = recordOf system (x .year) (x .month) (x .leap) (x .day);
-      accepted = record-accepted system r _ _ _ _ (x .on);
+      accepted = record-accepted system (r .0) _ _ _ _ (x .on);
       is-kind-one = refl;
       in-system = refl;
-      names = record-names system r _ _ _ _ (x .on);
-      every-storing = λ s before a room e m. Canonical.stored-of-date s before a room system r _ _ _ _ e m (x .on);
+      names = record-names system (r .0) _ _ _ _ (x .on);
+      every-storing = λ s before a room e m. Canonical.stored-of-date s before a room system (r .0) _ _ _ _ e m (x .on);
       no-other = λ t bytes a kind e m.
           KindOne.record-of-fields t a kind bytes
-          ∙ record-unique (systemOf t) r _ _ _ _ _ _ _ _ (KindOne.on-its-date t a kind r m) (subst (λ y. OnDate y r (x .year) (x .month) (x .leap) (x .day)) (sym e) (x .on))
-          ∙ ap (λ y. recordOf y (x .year) (x .month) (x .leap) (x .day)) e;
+          ∙ record-unique (systemOf t) (r .0) _ _ _ _ _ _ _ _ (KindOne.on-its-date t a kind (r .0) m) (subst (λ z. OnDate z (r .0) (x .year) (x .month) (x .leap) (x .day)) (sym e) (x .on))
+          ∙ ap (λ z. recordOf z (x .year) (x .month) (x .leap) (x .day)) e;
     }
 
--- In each of those years and each system: a year has twelve or thirteen months, each of 29 or 30 days; they tile its
--- days, so that each day is in exactly one of them; of twelve none lacks a middle qi, and of thirteen exactly one does.
-pub record MonthsTile (c : Constants) (n : ℕ) : Type 0 where
-  pub year : Span c n
-  pub twelve-or-thirteen : (monthCount year ≡ 12) ⊎ (monthCount year ≡ 13)
-  pub days : (k : ℕ) → InYear c n k → (monthLength c k ≡ 29) ⊎ (monthLength c k ≡ 30)
-  pub tile : (d : ℕ) → DayOfYear c n d → ExactlyOne (λ k. InYear c n k × InMonth c k d)
-  pub no-overhang : (k d : ℕ) → InYear c n k → InMonth c k d → DayOfYear c n d
-  pub of-twelve-none : monthCount year ≡ 12 → (k : ℕ) → InYear c n k → HoldsSome c k
-  pub of-thirteen-one : monthCount year ≡ 13 → ExactlyOne (λ k. InYear c n k × Lacks c k)
-
+-- In each of those years and each system, the months tile the days.
 pub months-tile : (system year : ℕ) → InScope system year → MonthsTile (constantsOf system) (yearsElapsed (constantsOf system) year)
 months-tile system year i =
     let c = constantsOf system in
@@ -185,13 +215,13 @@ months-tile system year i =
     record {
       year = y;
       twelve-or-thirteen = year-months c ok y;
-      days = λ k p. month-days c ok k;
-      tile = months-cover c ok n;
-      no-overhang = months-stay-within c ok n;
+      lengths = λ k p. month-days c ok k;
+      each-day-once = months-cover c ok n;
+      no-day-more = months-stay-within c ok n;
       of-twelve-none = twelve-none-lacks c ok y;
       of-thirteen-one = thirteen-one-leap c ok y;
     }
 
--- The same of the value that a request for a year's months returns; there the leap mark tells that a month lacks one.
+-- So does the list that `year` returns, whose leap marks stand for the lacking middle qi.
 pub value-tiles : (system year : ℕ) → InScope system year → Tiled (yearOf system year)
 value-tiles = MonthsHeld.year-tiled

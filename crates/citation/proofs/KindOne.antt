@@ -6,13 +6,17 @@ use mathlib.Core.List.{List, [], _∷_}
 use native.Mathlib.Omega.{arith}
 use lib.ListN.{length, getD}
 use Rattle.calendar.specs.Inside.{Inside}
-use Rattle.calendar.specs.Systems.{constantsOf, yearsElapsed}
-use Rattle.calendar.specs.Month.{monthLength}
+use Rattle.calendar.specs.Systems.{constantsOf, yearsElapsed, registerDay}
+use Rattle.calendar.specs.Month.{monthHead, monthLength}
 use Rattle.calendar.specs.Year.{DayOfYear}
 use Rattle.reckoning.specs.Scope.{InScope}
 use Rattle.reckoning.specs.declared.data.Date.{Date}
 use Rattle.reckoning.specs.Requests.{dateOf}
 use Rattle.reckoning.specs.Outcomes.{DateOutcome}
+use Rattle.calendar.proofs.EachSystem.{consistent}
+use Rattle.calendar.proofs.Spans.{span-first}
+use Rattle.reckoning.proofs.Scope.{reach}
+use Rattle.reckoning.proofs.InReach.{first-head}
 use Rattle.reckoning.proofs.Refusals.{by-inside}
 use Rattle.reckoning.proofs.Outcomes.{date-outcome, year-day-in-scope}
 use Rattle.citation.specs.Record.{byte, Bytes, lengthField, kindOf, kindLength, systemOf, yearField, monthField, leapField, dayField, recordOf}
@@ -92,7 +96,16 @@ module _ (b : List ℕ) (a : Accepted b) (kind : kindOf b ≡ 1) where
   on-its-date r (Names.by-ordinal e y d) = absurd (omega arith)
   on-its-date r (Names.by-register-day e d) = absurd (omega arith)
 
--- Every day of a year in scope has a date.
+-- Every count day of a year in scope has a register day,
+pub registered : (system year d : ℕ) → InScope system year → DayOfYear (constantsOf system) (yearsElapsed (constantsOf system) year) d
+    → (r : ℕ) × (r + constantsOf system .anchor ≡ d)
+registered system year d i y =
+    let c = constantsOf system in
+    let n = yearsElapsed c year in
+    let head = first-head c n (reach system year (i .year-inside)) in
+    (registerDay c d, omega (arith, y .from, ap (monthHead c) (span-first c (consistent system) (y .span))))
+
+-- and a date.
 pub record Dated (system r : ℕ) : Type 0 where
   pub year : ℕ
   pub month : ℕ

@@ -7,5 +7,7 @@ pub mod Named
 pub mod Refused
 -- What the storing step answers and writes, for every input and output.
 pub mod Store
+-- What the demands ask for, in words.
+pub mod Demanded
 -- What the parts of the judgement are handed.
 pub mod Judged

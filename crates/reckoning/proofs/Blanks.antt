@@ -25,17 +25,19 @@ qi-refusal-first system year i =
     (λ no-system e. inl (sym (qi-unseen system year i (λ z. omega arith)) ∙ e, no-system))
     (λ s no-year e. inr (λ w. w s, inl (sym (qi-unseen system year i (λ z. omega arith)) ∙ e, no-year)))
     (λ s.
-      inr
-      ( λ w. w (s .system-inside)
-      , inr
-        ( λ w. w (s .year-inside)
-        , by-order 23 i
-          (λ h. inl (qi-nine system year i s h, h))
-          (λ h. inr (λ w. omega arith, in-scope-qi system year i s h)) ) ))
+    inr (
+      λ w. w (s .system-inside),
+      inr (
+        λ w. w (s .year-inside),
+        by-order 23 i
+            (λ h. inl (qi-nine system year i s h, h))
+            (λ h. inr (λ w. omega arith, in-scope-qi system year i s h)),
+      ),
+    ))
 
 -- Refused, each gives its blank with the number.
 blank-given : {A : Type 0} (answer : Constants → ℕ → A) (blank : ℕ → A) (refusal system year : ℕ) → (refusal ≡ 0 → ⊥)
-  → answerTo (askedOf refusal system year) answer blank ≡ blank refusal
+    → answerTo (askedOf refusal system year) answer blank ≡ blank refusal
 blank-given answer blank refusal system year some =
     sym (refused answer blank (askedOf refusal system year) (askedOf refusal system year) refl some)
 

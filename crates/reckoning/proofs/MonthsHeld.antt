@@ -50,10 +50,11 @@ module _ (c : Constants) (n : ℕ) (r : Reach c n) where
       let e : f + m ≡ firstMonth c (n + 1) = omega (arith, count-least (reckoned c ok) n) in
       record {
         accepted = refl;
-        places =
-          ( filled-length (headAt c f) noHeads (m + 1)
-          , filled-length (numberAt c f) noMarks m
-          , filled-length (leapAt c f) noMarks m );
+        places = (
+          filled-length (headAt c f) noHeads (m + 1),
+          filled-length (numberAt c f) noMarks m,
+          filled-length (leapAt c f) noMarks m,
+        );
         span = span c ok n;
         count = refl;
         head = λ i h. head-at i (omega arith);

@@ -21,11 +21,7 @@ pub(crate) struct Asked {
 fn constants_of(system: u32) -> Constants
     ensures { λ r. ⌜ r ≡ constantsOf system ⌝ }
 {
-    if system == 1 {
-        guantian()
-    } else {
-        jiyuan()
-    }
+    if system == 1 { guantian() } else { jiyuan() }
 }
 
 fn ask(refusal: u8, system: u32, year: u32) -> Asked
