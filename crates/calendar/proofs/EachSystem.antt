@@ -25,6 +25,6 @@ each-system P g j system = either (eqb system 1)
 pub consistent : (system : ℕ) → Consistent (constantsOf system)
 consistent = each-system Consistent guantian-consistent jiyuan-consistent
 
--- Going forward the year count rises by one a year.
+-- A year later the count is one more (002 prints two).
 pub one-a-year : (c : Constants) → Consistent c → (a : ℕ) → yearsElapsed c (a + 1) ≡ yearsElapsed c a + 1
 one-a-year c ok a = omega (arith, ok .epoch-before)

@@ -1,4 +1,5 @@
--- The laws of months and years in the paper's words, over any constants that meet the list, for every year.
+-- The laws of months and years, over any constants that meet the list and for every year; last, those that join the
+-- closed forms to the worded rules.
 use Prim.Native.Nat.{ℕ, zero, suc, _+_, _*_, _-_, _/_, _%_, _≤_, _<_}
 use mathlib.Core.Path.{_≡_, subst, subst₂, ap}
 use mathlib.Core.Logic.{_⊎_, inl, inr, ⊎-elim}
@@ -61,7 +62,7 @@ module _ (c : Constants) (ok : Consistent c) where
       (λ thirteen. ⊎-elim (λ e. omega arith) (λ e. omega arith) (days-of-thirteen y thirteen))
       (year-months y)
 
-  -- The lengths of a year's months add up to the distance between its head and the next year's head.
+  -- The month lengths of a year sum to its own length.
   lengths-telescope : (count k : ℕ) → monthHead c k + lengthsFrom c k count ≡ monthHead c (k + count)
   unfolding lengthsFrom
   lengths-telescope zero k = let e : k ≡ k + 0 = omega arith in omega (arith, ap (monthHead c) e)

@@ -1,5 +1,5 @@
--- The functions by which the code reckons, beside `monthHead`. Middle qi are counted on from the epoch: g is 12 n + j for middle qi j
--- of year n, so that nothing needs a case for the turn of the year. All divisions are whole.
+-- The functions by which the code reckons, beside `monthHead`. Middle qi are counted on from the epoch: g is 12 n + j
+-- for middle qi j of year n, so that nothing needs a case for the turn of the year. `/` is whole division throughout.
 use Prim.Native.Nat.{ℕ, _+_, _*_, _-_, _/_, _%_}
 use mathlib.Core.Bool.{Bool}
 use lib.Dec.{ltb}
@@ -10,11 +10,11 @@ use Rattle.calendar.specs.Month.{monthHead, numberOf}
 abbrev pub monthOfDay : Constants → ℕ → ℕ
 monthOfDay c d = ((d + 1) * c .day - 1) / c .month
 
--- The month that holds middle qi g, which falls g Y / 12 parts from the epoch.
+-- The month that holds middle qi g, which falls g twelfths of Y from the epoch.
 abbrev pub monthOfQi : Constants → ℕ → ℕ
 monthOfQi c g = g * c .year / (12 * c .month)
 
--- The last middle qi before the end of month k: g Y / 12 < (k + 1) M just when g Y ≤ (k + 1) 12 M - 1.
+-- The last middle qi before the end of month k: g Y < 12 (k + 1) M just when g Y ≤ (k + 1) 12 M - 1.
 abbrev pub qiOfMonth : Constants → ℕ → ℕ
 qiOfMonth c k = ((k + 1) * (12 * c .month) - 1) / c .year
 
@@ -38,8 +38,7 @@ monthNumber c k = numberOf (qiOfMonth c k % 12)
 abbrev pub leapMark : Constants → ℕ → ℕ
 leapMark c k = k - monthOfQi c (qiOfMonth c k)
 
--- The middle qi, counted from the epoch, after which an ordinary month of year n with a number is numbered: the inverse
--- of `numberOf`.
+-- The middle qi of year n that gives a month a number: `numberOf` inverted, and counted from the epoch.
 abbrev pub qiOfNumber : ℕ → ℕ → ℕ
 qiOfNumber n number = 12 * n + (number + 1) % 12
 

@@ -1,4 +1,4 @@
--- The reckoning of paper 01, in the order of the paper; each file can be checked against it by reading.
+-- The reckoning of paper 01. The first five files render its rules in its order and can be checked against it by reading.
 -- The constants of both systems, years elapsed, register days.
 pub mod Systems
 -- The sixty-day name of a day.

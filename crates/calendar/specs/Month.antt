@@ -13,7 +13,7 @@ newMoon c k = k * c .month
 abbrev pub monthHead : Constants → ℕ → ℕ
 monthHead c k = newMoon c k / c .day
 
--- Month k holds the days from its new moon's day up to the day before the next one's.
+-- Reckoning, the days of month k: from the day of its new moon on, and before that of the next.
 abbrev pub InMonth : Constants → ℕ → ℕ → Type 0
 InMonth c k d = (monthHead c k ≤ d) × (d < monthHead c (k + 1))
 
@@ -29,7 +29,7 @@ dayOfMonth c k place = monthHead c k + place - 1
 abbrev pub middleQi : Constants → ℕ → ℕ → ℕ
 middleQi c n j = qi c n (2 * j)
 
--- Month k holds middle qi j of year n: the qi's moment is at or after its own new moon and before the next.
+-- Reckoning, held middle qi: the moment of middle qi j of year n falls in month k, which runs from new moon to new moon.
 abbrev pub Holds : Constants → ℕ → ℕ → ℕ → Type 0
 Holds c k n j = (newMoon c k * c .units ≤ middleQi c n j) × (middleQi c n j < newMoon c (k + 1) * c .units)
 

@@ -3,7 +3,7 @@
 use Prim.Native.Nat.{ℕ, _+_, _*_, _/_, _%_}
 use Rattle.calendar.specs.declared.data.Constants.{Constants}
 
--- Reckoning, solstice: T is N times Y parts from the epoch.
+-- Reckoning, solstice: T, so many years of Y parts after the epoch.
 abbrev pub solstice : Constants → ℕ → ℕ
 solstice c n = n * c .year
 
@@ -15,7 +15,7 @@ solsticeDay c n = solstice c n / c .day
 abbrev pub solsticeRemainder : Constants → ℕ → ℕ
 solsticeRemainder c n = solstice c n % c .day
 
--- ExactlyOne of s equal steps of a year, in small units. Where s divides the year's small units, nothing is lost.
+-- One of s equal steps of a year, in small units. Where s divides the year's small units, nothing is lost.
 abbrev pub step : Constants → ℕ → ℕ
 step c s = c .year * c .units / s
 
@@ -23,8 +23,8 @@ step c s = c .year * c .units / s
 abbrev pub moment : Constants → ℕ → ℕ → ℕ → ℕ
 moment c s n i = solstice c n * c .units + i * step c s
 
--- Reckoning, qi i: T plus i twenty-fourths of Y, exactly, in small units. Guantian's step is 15 days, 2,628 parts and
--- 12 small units; the printed 11 of 002 is corrected (see `guantian-step`).
+-- Reckoning, qi i: i of 24 equal steps after T, with nothing rounded. Guantian's step is 15 days, 2,628 parts and 12 small
+-- units; the printed 11 of 002 is corrected (see `guantian-step`).
 abbrev pub qi : Constants → ℕ → ℕ → ℕ
 qi c n i = moment c 24 n i
 

@@ -5,7 +5,7 @@ use Rattle.calendar.specs.declared.data.Constants.{Constants}
 use Rattle.calendar.specs.Qi.{solstice}
 use Rattle.calendar.specs.Month.{newMoon, monthHead, monthLength, Bears, Marked}
 
--- Year n begins with month k: its new moon is the last at or before the solstice.
+-- Reckoning, a year's beginning: of the new moons not after the solstice, month k has the last.
 abbrev pub Begins : Constants → ℕ → ℕ → Type 0
 Begins c n k = (newMoon c k ≤ solstice c n) × ((j : ℕ) → newMoon c j ≤ solstice c n → j ≤ k)
 
@@ -20,7 +20,7 @@ pub record Span (c : Constants) (n : ℕ) : Type 0 where
 abbrev pub monthCount : {c : Constants} {n : ℕ} → Span c n → ℕ
 monthCount y = y .next - y .first
 
--- A year's head is that of its first month; it ends before the next year's head.
+-- A head, the customer's own term, is a first day: a year's is its first month's.
 abbrev pub yearHead : {c : Constants} {n : ℕ} → Span c n → ℕ
 yearHead {c} y = monthHead c (y .first)
 
@@ -42,7 +42,7 @@ pub record InYear (c : Constants) (n k : ℕ) : Type 0 where
   pub from : span .first ≤ k
   pub before : k < span .next
 
--- Count day d is one of year n: from its head up to the day before the next year's head.
+-- Count day d is one of year n, which runs from head to head.
 pub record DayOfYear (c : Constants) (n d : ℕ) : Type 0 where
   pub span : Span c n
   pub from : yearHead span ≤ d
@@ -52,7 +52,7 @@ pub record DayOfYear (c : Constants) (n d : ℕ) : Type 0 where
 abbrev pub dayOfOrdinal : {c : Constants} {n : ℕ} → Span c n → ℕ → ℕ
 dayOfOrdinal y ordinal = yearHead y + ordinal - 1
 
--- The month of year n with a number and a leap mark: the leap one where the mark is 1, the other where it is 0.
+-- Month k of year n, known by its number and leap mark.
 pub record MonthNamed (c : Constants) (n number mark k : ℕ) : Type 0 where
   pub in-year : InYear c n k
   pub bears : Bears c k number

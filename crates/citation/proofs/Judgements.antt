@@ -19,7 +19,7 @@ use Rattle.reckoning.specs.Requests.{daysOf, monthOf, dateOf}
 use Rattle.citation.specs.declared.judge.Judgement.{Judgement}
 use Rattle.citation.specs.Store.{refuse, accept, unlessRefused, unlessWrong, judgeDate, judgeRegisterDay, judgeInYear, judgeOrdinal, judgeInMonth, judgeDay, judgeNameInMonth, judgeName, daysToName, judgeKind, judgeOf}
 
--- ExactlyOne law for every kind.
+-- One law for every kind.
 module _ (refusal : ℕ) (wrong : Bool) (j : Judgement) where
   refused-by : (refusal ≡ 0 → ⊥) → refuse refusal ≡ unlessRefused refusal j
   refused-by h = simp (ne-eqb refusal 0 h)

@@ -1,5 +1,5 @@
--- The day that a citation names, by the reckoning: paper 01, "The words of demand 3". A register day is a count day less
--- the system's anchor.
+-- The day that a citation names, by the reckoning: paper 01, "The words of demand 3". A citation, the customer's own term,
+-- is a record that names a day. A register day is a count day less the system's anchor.
 use Prim.Native.Nat.{ℕ, _+_, _-_}
 use mathlib.Core.Path.{_≡_}
 use mathlib.Core.List.{List}
@@ -19,20 +19,19 @@ constantsIn s = constantsOf (systemOf s)
 abbrev pub elapsedIn : List ℕ → ℕ
 elapsedIn s = yearsElapsed (constantsIn s) (yearField s)
 
--- The month of kinds 1 and 2: that of the year with the number, the leap one where the leap byte is 1 and the other
--- where it is 0.
+-- Kinds 1 and 2 cite a month of their year by its number and leap mark.
 abbrev pub CitedMonth : List ℕ → ℕ → Type 0
 CitedMonth s k = MonthNamed (constantsIn s) (elapsedIn s) (monthField s) (leapField s) k
 
 -- Citation s names register day r.
 pub data Names (s : List ℕ) (r : ℕ) : Type 0 where
-  -- kind 1: the head of its month plus the day of the month less 1
+  -- kind 1, by its place in the month
   by-day : kindOf s ≡ 1 → (k : ℕ) → CitedMonth s k → r + constantsIn s .anchor ≡ dayOfMonth (constantsIn s) k (dayField s) → Names s r
-  -- kind 2: the day of its month that bears the name
+  -- kind 2, as the one in the month whose name it is
   by-name : kindOf s ≡ 2 → (k : ℕ) → CitedMonth s k → InMonth (constantsIn s) k (r + constantsIn s .anchor) → nameOf r ≡ nameField s → Names s r
-  -- kind 3: the head of its year plus the ordinal less 1
+  -- kind 3, by its place in the year
   by-ordinal : kindOf s ≡ 3 → (y : Span (constantsIn s) (elapsedIn s)) → r + constantsIn s .anchor ≡ dayOfOrdinal y (ordinalField s) → Names s r
-  -- kind 4: the register day written in it
+  -- kind 4, outright
   by-register-day : kindOf s ≡ 4 → r ≡ registerDayField s → Names s r
 
 -- Register day r is, in a system, day `day` of the month with a number and a leap mark of a year in scope.

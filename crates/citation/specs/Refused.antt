@@ -1,4 +1,4 @@
--- Numbered refusals: paper 01, the table, in its own words and order.
+-- Numbered refusals: paper 01's table, a definition a row, in its order.
 use Prim.Native.Nat.{ℕ, _+_, _≤_, _<_}
 use mathlib.Core.Path.{_≡_}
 use mathlib.Core.Logic.{_⊎_}
@@ -13,58 +13,61 @@ use Rattle.reckoning.specs.Outcomes.{DayInScope}
 use Rattle.citation.specs.Record.{lengthField, kindOf, systemOf, kindLength, yearField, monthField, leapField, dayField, nameField, ordinalField, registerDayField}
 use Rattle.citation.specs.Named.{constantsIn, elapsedIn, CitedMonth}
 
--- 1: input has fewer than 4 bytes.
+-- Row 1: too few bytes for a length field and a kind.
 abbrev pub TooShort : List ℕ → Type 0
 TooShort s = length s < 4
 
--- 2: kind is not 1 to 4.
+-- Row 2: a kind that there is not.
 abbrev pub WrongKind : List ℕ → Type 0
 WrongKind s = Inside 1 4 (kindOf s) → ⊥
 
--- 3: length field is not the kind's length, or the input's own length differs from it.
+-- Row 3: the length field, or the number of bytes handed in, is not the kind's.
 abbrev pub WrongLength : List ℕ → Type 0
 WrongLength s = (lengthField s ≡ kindLength (kindOf s)) × (length s ≡ lengthField s) → ⊥
 
--- 4: system is not 1 or 2.
+-- Row 4: a system that there is not.
 abbrev pub WrongSystem : List ℕ → Type 0
 WrongSystem s = Inside 1 2 (systemOf s) → ⊥
 
--- 5: year is not 1 to 3000 (kinds 1, 2, 3).
+-- Row 5: a year out of scope, in the kinds that have one.
 abbrev pub WrongYear : List ℕ → Type 0
 WrongYear s = (kindOf s ≤ 3) × (Inside 1 3000 (yearField s) → ⊥)
 
--- 6: month not 1 to 12, or leap not 0 or 1, or leap is 1 and that month of that year is not leap (kinds 1, 2).
+-- Row 6: a month number or leap mark that there is not, or a leap mark on a month that has no leap one in that year; in
+-- the kinds that have a month.
 abbrev pub WrongMonth : List ℕ → Type 0
 WrongMonth s =
     (kindOf s ≤ 2)
     × ((Inside 1 12 (monthField s) → ⊥) ⊎ ((Inside 0 1 (leapField s) → ⊥) ⊎ ((leapField s ≡ 1) × (HasLeap (constantsIn s) (elapsedIn s) (monthField s) → ⊥))))
 
--- The day, name or ordinal is in the month or year named, or the register day is one of years 1 to 3000.
+-- What is cited exists: the month has the day, or a day of the name; the year has the ordinal; the register day lies in
+-- years 1 to 3000.
 pub data Placed (s : List ℕ) : Type 0 where
   day-in-month : kindOf s ≡ 1 → (k : ℕ) → CitedMonth s k → Inside 1 (monthLength (constantsIn s) k) (dayField s) → Placed s
   name-in-month : kindOf s ≡ 2 → (k r : ℕ) → CitedMonth s k → InMonth (constantsIn s) k (r + constantsIn s .anchor) → nameOf r ≡ nameField s → Placed s
   ordinal-in-year : kindOf s ≡ 3 → (y : Span (constantsIn s) (elapsedIn s)) → Inside 1 (yearLength y) (ordinalField s) → Placed s
   day-in-scope : kindOf s ≡ 4 → DayInScope (systemOf s) (registerDayField s) → Placed s
 
--- 7: it is not.
+-- Row 7: what is cited does not exist.
 abbrev pub NotPlaced : List ℕ → Type 0
 NotPlaced s = Placed s → ⊥
 
--- 8: output has fewer than 10 bytes.
+-- Row 8: an output too short for a stored record.
 abbrev pub NoRoom : ℕ → Type 0
 NoRoom room = room < 10
 
--- The rows that judge a citation by its bytes: whether it is a record at all, then what it says,
+-- The rows on what a record says,
 abbrev pub contentRows : List ℕ → List Row
 contentRows s = 4 when WrongSystem s ∷ 5 when WrongYear s ∷ 6 when WrongMonth s ∷ 7 when NotPlaced s ∷ []
 
+-- after those on whether it is a record at all: these judge a citation by its bytes,
 abbrev pub citationRows : List ℕ → List Row
 citationRows s = 1 when TooShort s ∷ 2 when WrongKind s ∷ 3 when WrongLength s ∷ contentRows s
 
--- and, for a storing, its output too.
+-- and a storing by its output too.
 abbrev pub storingRows : List ℕ → ℕ → List Row
 storingRows s room = citationRows s ++ (8 when NoRoom room ∷ [])
 
--- A citation is accepted when none of the numbered refusals applies to its bytes.
+-- Accepted: none of those on its bytes applies.
 abbrev pub Accepted : List ℕ → Type 0
 Accepted s = FirstOf (citationRows s) 0

@@ -67,7 +67,7 @@ judgeNameInMonth m system year month leap name =
 unfoldable pub judgeName : ℕ → ℕ → ℕ → ℕ → ℕ → Judgement
 judgeName system year month leap name = judgeNameInMonth (monthOf system year month leap) system year month leap name
 
--- Length field and input length are the kind's.
+-- The length field or the input's length is not the kind's.
 abbrev pub lengthWrong : List ℕ → Bool
 lengthWrong s = not (eqb (lengthField s) (kindLength (kindOf s)) && eqb (length s) (lengthField s))
 

@@ -5,3 +5,7 @@ pub mod Writing
 pub mod Decimals
 -- The text of a line from its pieces.
 pub mod Lines
+-- Records framed in a buffer.
+pub mod Framing
+-- One turn of the loop over a buffer.
+pub mod Turn

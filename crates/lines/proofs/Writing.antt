@@ -64,3 +64,16 @@ wrote-pair b at both x y h l =
     (wrote-then b (set b at x) (set (set b at x) (at + 1) y) (x ∷ []) (y ∷ []) at (at + 1) (at + 1 + 1)
     (wrote-byte b at x (omega arith))
     (wrote-byte (set b at x) (at + 1) y (omega (arith, length-set b at x)))))
+
+-- What stands before the end of a text, and after it.
+pub wrote-front : (b a x : List ℕ) (at e : ℕ) → Wrote b at x a e → take e a ≡ take at b ++ x
+wrote-front b a x at e w =
+    let front : length (take at b ++ x) ≡ e = length-append (take at b) x ∙ ap (λ n. n + length x) (length-take-le at b (omega (arith, w))) ∙ sym (w .ends) in
+    ap (take e) (w .is ∙ sym (append-assoc (take at b) x (drop (at + length x) b))) ∙ take-at (take at b ++ x) (drop (at + length x) b) e front
+
+pub wrote-back : (b a x : List ℕ) (at e : ℕ) → Wrote b at x a e → drop e a ≡ drop e b
+wrote-back b a x at e w =
+    let front : length (take at b ++ x) ≡ e = length-append (take at b) x ∙ ap (λ n. n + length x) (length-take-le at b (omega (arith, w))) ∙ sym (w .ends) in
+    ap (drop e) (w .is ∙ sym (append-assoc (take at b) x (drop (at + length x) b)))
+    ∙ drop-at (take at b ++ x) (drop (at + length x) b) e front
+    ∙ ap (λ n. drop n b) (sym (w .ends))

@@ -5,3 +5,5 @@ pub mod Decimal
 pub mod Line
 -- Text written into an output.
 pub mod Wrote
+-- What the program writes.
+pub mod Program

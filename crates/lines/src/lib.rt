@@ -1,3 +1,4 @@
-// The program's text: decimal numbers, and the line of a record.
-pub mod line;
+// The program's text: decimal numbers, the line of a record, and the records of a buffer.
+pub mod convert;
+mod line;
 mod put;

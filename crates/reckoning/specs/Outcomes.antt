@@ -23,7 +23,7 @@ pub data DaysOutcome (system year : ℕ) (v : Days) : Type 0 where
       → v .length ≡ yearLength y
       → DaysOutcome system year v
 
--- ExactlyOne month: refused 4, then 5, then 6; or its head and its length.
+-- One month: refused 4, then 5, then 6; or its head and its length.
 pub data MonthOutcome (system year number leap : ℕ) (v : Month) : Type 0 where
   system-refused : (Inside 1 2 system → ⊥) → v ≡ noMonth 4 → MonthOutcome system year number leap v
   year-refused : Inside 1 2 system → (Inside 1 3000 year → ⊥) → v ≡ noMonth 5 → MonthOutcome system year number leap v

@@ -1,4 +1,4 @@
--- Numbered refusals, paper 01: checked in the table's order, the first that applies is given, and none otherwise.
+-- Numbered refusals of paper 01 as they are computed: rules in the table's order, of which the first that applies counts.
 use Prim.Native.Nat.{ℕ, _+_}
 use mathlib.Core.Bool.{Bool, cond, not, _&&_, _||_}
 use mathlib.Core.List.{List, [], _∷_}
@@ -39,11 +39,11 @@ yearRefusal system year = first (wrongSystem system ∷ wrongYear year ∷ [])
 unfoldable pub qiRefusal : ℕ → ℕ → ℕ → ℕ
 qiRefusal system year i = first (wrongSystem system ∷ wrongYear year ∷ wrongQi i ∷ [])
 
--- Refusal 6: the month is not 1 to 12, or the leap mark not 0 or 1, or it is 1 and that month of year n is not leap.
+-- Refusal 6: a number or mark that no month has, or a mark on a month that no leap month follows in year n.
 abbrev pub monthWrong : Constants → ℕ → ℕ → ℕ → Bool
 monthWrong c n number leap = outside 1 12 number || outside 0 1 leap || (eqb leap 1 && not (leapFollows c n number))
 
--- Refusal 7, of a register day: it is before the head of year 1, or not before the head of year 3001.
+-- Refusal 7, of a register day: it lies outside years 1 to 3000, which end where year 3001 begins.
 abbrev pub dayWrong : Constants → ℕ → Bool
 dayWrong c r =
     ltb (r + c .anchor) (headOfYear c (yearsElapsed c 1)) || leb (headOfYear c (yearsElapsed c 3001)) (r + c .anchor)

@@ -1,4 +1,4 @@
--- The systems and years in scope: every request for them is answered.
+-- The systems and years in scope.
 use Prim.Native.Nat.{ℕ}
 use Rattle.calendar.specs.Inside.{Inside}
 

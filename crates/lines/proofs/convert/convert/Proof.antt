@@ -1,0 +1,82 @@
+use Prim.Native.Nat.{_+_, _-_, _≤_}
+use mathlib.Core.Path.{_≡_, refl, subst, ap, sym, _∙_}
+use native.Mathlib.Omega.{arith}
+use lib.ListN.{length, take, drop, length-drop}
+use Rattle.lines.specs.Line.{lineOf}
+use Rattle.lines.specs.Wrote.{Wrote}
+use Rattle.lines.specs.Program.{nextOf}
+use Rattle.lines.proofs.Framing.{Next, next-is}
+use Rattle.lines.proofs.Turn.{SoFar, one-more, rest-kept, read-inside}
+use Rattle.lines.proofs.convert.convert.Statement.{statement}
+use Rattle.lines.proofs.convert.convert.Tie as tie
+
+abbrev Inv-loop : tie.InvT-loop
+Inv-loop input out₀ read₀ written₀ n₀ out read written n =
+    (read ≤ length input)
+    × (written ≤ length out)
+    × (length out ≡ length out₀)
+    × (n ≡ nextOf input read (length out₀ - written))
+    × SoFar input read out written
+    × (drop written out ≡ drop written out₀)
+
+abbrev μ-loop : tie.MeasureT-loop
+μ-loop input out₀ read₀ written₀ n₀ out read written n = length input - read
+
+next-requires : tie.Need-next-requires Inv-loop μ-loop
+next-requires c κs = omega arith
+
+loop-holds : tie.Need-loop-holds Inv-loop μ-loop
+loop-holds c = let all : length (c .before .before .before .args .out .now) ≡ length (c .before .before .before .args .out .now) - 0 = omega arith in (omega arith, omega arith, refl, c .next .ensures ∙ ap (nextOf (c .before .before .before .args .input .now) 0) all, λ t u w. w, refl)
+
+add-end : tie.Need-add-end Inv-loop μ-loop
+add-end c = let here = next-is _ _ _ _ (c .before .loop .inv .3) (c .loop-test .taken) in omega (arith, read-inside _ _ _ _ here (c .before .loop .inv .0))
+
+sub-put-line : tie.Need-sub-put-line Inv-loop μ-loop
+sub-put-line c = omega arith
+
+part-put-line-start : tie.Need-part-put-line-start Inv-loop μ-loop
+part-put-line-start c = omega arith
+
+part-put-line-end : tie.Need-part-put-line-end Inv-loop μ-loop
+part-put-line-end c = let here = next-is _ _ _ _ (c .before .loop .inv .3) (c .loop-test .taken) in omega (arith, read-inside _ _ _ _ here (c .before .loop .inv .0))
+
+put-line-requires : tie.Need-put-line-requires Inv-loop μ-loop
+put-line-requires c κs = let here = next-is _ _ _ _ (c .before .before .before .loop .inv .3) (c .before .before .loop-test .taken) in omega (arith, here .room, c .before .before .before .loop .inv)
+
+sub-next : tie.Need-sub-next Inv-loop μ-loop
+sub-next c = omega (arith, c .before .before .put-line .ensures .0 .fits, c .before .before .put-line .ensures .0 .same-length)
+
+next-requires-2 : tie.Need-next-requires-2 Inv-loop μ-loop
+next-requires-2 c κs = let here = next-is _ _ _ _ (c .before .before .before .before .before .before .loop .inv .3) (c .before .before .before .before .before .loop-test .taken) in omega (arith, read-inside _ _ _ _ here (c .before .before .before .before .before .before .loop .inv .0))
+
+loop-less : tie.Need-loop-less Inv-loop μ-loop
+loop-less c = let here = next-is _ _ _ _ (c .before .before .before .before .before .before .before .loop .inv .3) (c .before .before .before .before .before .before .loop-test .taken) in omega (arith, here .at-least, read-inside _ _ _ _ here (c .before .before .before .before .before .before .before .loop .inv .0))
+
+loop-again : tie.Need-loop-again Inv-loop μ-loop
+loop-again c = let inv = c .before .before .before .before .before .before .before .loop .inv in let here = next-is _ _ _ _ (inv .3) (c .before .before .before .before .before .before .loop-test .taken) in let w = c .before .before .before .put-line .ensures .0 in let long = w .same-length ∙ inv .2 in (read-inside _ _ _ _ here (inv .0), omega (arith, w .fits, w .same-length), long, c .next2 .ensures ∙ ap (λ k. nextOf (c .before .before .before .before .before .before .before .before .before .before .before .args .input .now) (c .before .before .before .before .before .before .before .loop .read + c .before .before .before .before .before .before .before .loop .n) (k - c .before .before .before .put-line .result)) long, one-more _ _ _ _ _ _ _ _ here w (inv .4), rest-kept _ _ _ _ _ _ _ _ here w _ (inv .5))
+
+same-length : tie.Need-same-length Inv-loop μ-loop
+same-length c = c .before .loop .inv .2
+
+returns : tie.Need-returns Inv-loop μ-loop
+returns c = let inv = c .before .loop .inv in record { read-within = inv .0; lines = inv .4; rest-left = inv .5; no-more = sym (inv .3) ∙ c .loop-test .left }
+
+pub convert-spec : {M : Type 1} → statement M
+convert-spec =
+    tie.close
+    (tie.spec
+    Inv-loop
+    μ-loop
+    next-requires
+    loop-holds
+    add-end
+    sub-put-line
+    part-put-line-start
+    part-put-line-end
+    put-line-requires
+    sub-next
+    next-requires-2
+    loop-less
+    loop-again
+    same-length
+    returns)

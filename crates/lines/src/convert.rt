@@ -1,0 +1,64 @@
+// Records in a buffer, written as lines.
+ghost use mathlib.Core.Path.{_≡_};
+ghost use Prim.Native.Nat.{_≤_};
+ghost use lib.ListN.{length, drop};
+ghost use Rattle.lines.specs.Program.{misframed, nextOf, Converted};
+use crate::line::put_line;
+use crate::put::wide;
+use reckoning::refusal::outside;
+
+// How far a buffer was read, and how much was written.
+pub struct Progress {
+    pub read: usize,
+    pub written: usize,
+}
+
+// The input starts with a length field that no record has.
+pub fn starts_badly(s: &[u8]) -> bool
+    ensures { λ r. ⌜ r ≡ misframed (now (s .entry)) ⌝ }
+{
+    if s.len() < 2 {
+        return false;
+    }
+    outside(4, 64, wide(s[0]) + 256 * wide(s[1]))
+}
+
+// The length of the record at a place, where a whole one is there and 64 bytes of output are; else 0.
+fn next(s: &[u8], at: usize, size: usize) -> usize
+    requires { ⌜ at ≤ length (now s) ⌝ }
+    ensures { λ r. ⌜ r ≡ nextOf (now (s .entry)) at size ⌝ }
+{
+    if size < 64 {
+        return 0;
+    }
+    if s.len() - at < 2 {
+        return 0;
+    }
+    let n = wide(s[at]) + 256 * wide(s[at + 1]);
+    if outside(4, 64, n) {
+        return 0;
+    }
+    if s.len() - at < n as usize {
+        return 0;
+    }
+    n as usize
+}
+
+// Writes the line of each whole record, as far as the output has room.
+pub fn convert(input: &[u8], out: &mut [u8]) -> Progress
+    ensures { λ r. ⌜ Converted (now (input .entry)) (now (out .entry)) (now (out .exit)) r ⌝ }
+{
+    let mut read = 0;
+    let mut written = 0;
+    let mut n = next(input, read, out.len());
+    while n != 0 {
+        let end = read + n;
+        written = put_line(&input[read..end], out, written);
+        read = end;
+        n = next(input, read, out.len() - written);
+    }
+    Progress {
+        read: read,
+        written: written,
+    }
+}
