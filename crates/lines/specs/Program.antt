@@ -33,6 +33,8 @@ nextOf s at size = cond (leb 64 size && framed (drop at s)) (lengthField (drop a
 -- whatever u the program writes from the place reached on, the lines and then u is what it writes from the start.
 pub record Converted (s before after : List ℕ) (r : Progress) : Type 0 where
   pub read-within : r .read ≤ length s
+  pub written-within : r .written ≤ length after
+  pub same-length : length after ≡ length before
   pub lines : (t u : List ℕ) → Writes (drop (r .read) s ++ t) u → Writes (s ++ t) (take (r .written) after ++ u)
   pub rest-left : drop (r .written) after ≡ drop (r .written) before
   pub no-more : nextOf s (r .read) (length before - r .written) ≡ 0

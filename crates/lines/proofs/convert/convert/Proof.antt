@@ -59,7 +59,7 @@ same-length : tie.Need-same-length Inv-loop μ-loop
 same-length c = c .before .loop .inv .2
 
 returns : tie.Need-returns Inv-loop μ-loop
-returns c = let inv = c .before .loop .inv in record { read-within = inv .0; lines = inv .4; rest-left = inv .5; no-more = sym (inv .3) ∙ c .loop-test .left }
+returns c = let inv = c .before .loop .inv in record { read-within = inv .0; written-within = inv .1; same-length = inv .2; lines = inv .4; rest-left = inv .5; no-more = sym (inv .3) ∙ c .loop-test .left }
 
 pub convert-spec : {M : Type 1} → statement M
 convert-spec =

@@ -1,0 +1,59 @@
+use Prim.Native.Nat.{_≤_}
+use mathlib.Core.Path.{_≡_, refl, _∙_}
+use native.Mathlib.Omega.{arith}
+use lib.ListN.{length}
+use Rattle.chiselbrow.proofs.drain.Statement.{statement}
+use Rattle.chiselbrow.proofs.drain.Tie as tie
+
+abbrev Inv-loop : tie.InvT-loop
+Inv-loop input out₀ s₀ turns₀ out s turns = (length out ≡ length out₀) × (s .to ≤ length input)
+
+abbrev μ-loop : tie.MeasureT-loop
+μ-loop input out₀ s₀ turns₀ out s turns = turns
+
+step-requires : tie.Need-step-requires Inv-loop μ-loop
+step-requires c κs = omega arith
+
+loop-holds : tie.Need-loop-holds Inv-loop μ-loop
+loop-holds c = (refl, c .before .before .step .ensures .0)
+
+same-length : tie.Need-same-length Inv-loop μ-loop
+same-length c = c .before .before .before .loop .inv .0 ∙ c .before .before .before .before .before .before .step .ensures .1
+
+returns : tie.Need-returns Inv-loop μ-loop
+returns c = c .before .before .before .loop .inv .1
+
+step-requires-2 : tie.Need-step-requires-2 Inv-loop μ-loop
+step-requires-2 c κs = c .before .before .before .before .loop .inv .1
+
+sub-turns : tie.Need-sub-turns Inv-loop μ-loop
+sub-turns c = omega arith
+
+loop-less : tie.Need-loop-less Inv-loop μ-loop
+loop-less c = omega arith
+
+loop-again : tie.Need-loop-again Inv-loop μ-loop
+loop-again c = (c .before .before .step2 .ensures .1 ∙ c .before .before .before .before .before .before .before .loop .inv .0, c .before .before .step2 .ensures .0)
+
+same-length-2 : tie.Need-same-length-2 Inv-loop μ-loop
+same-length-2 c = c .before .loop .inv .0 ∙ c .before .before .before .before .step .ensures .1
+
+returns-2 : tie.Need-returns-2 Inv-loop μ-loop
+returns-2 c = c .before .loop .inv .1
+
+pub drain-spec : {M : Type 1} → statement M
+drain-spec =
+    tie.close
+    (tie.spec
+    Inv-loop
+    μ-loop
+    step-requires
+    loop-holds
+    same-length
+    returns
+    step-requires-2
+    sub-turns
+    loop-less
+    loop-again
+    same-length-2
+    returns-2)
