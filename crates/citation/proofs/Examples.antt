@@ -48,7 +48,7 @@ answer (Month system year place) =
 answer (Refusal s) = refusalOf s 10 ∷ []
 answer (Stored s) = storedInto s (replicate 10 0)
 
--- A number of two bytes, after n and before the rest.
+-- The two bytes of a number, and the rest.
 then : ℕ → List ℕ → List ℕ
 then n rest = (n % 256) ∷ (n / 256) ∷ rest
 
@@ -59,74 +59,59 @@ byOrdinal system year ordinal = 9 ∷ 0 ∷ 3 ∷ 0 ∷ system ∷ then year (th
 byName : ℕ → ℕ → ℕ → ℕ → ℕ → List ℕ
 byName system year month leap name = 10 ∷ 0 ∷ 2 ∷ 0 ∷ system ∷ then year (month ∷ leap ∷ name ∷ [])
 
-pub questions : List Question
-questions =
-    -- cases 1 and 2
-    Solstice 1 1092
-    ∷ FirstMoon 1 1092
-    -- case 3
-    ∷ Months 1 1092
-    ∷ Days 1 1092
-    ∷ Refusal (byOrdinal 1 1092 355)
-    ∷ Refusal (byOrdinal 1 1092 356)
-    -- case 4: month 11 is the first
-    ∷ Number 1 1092 1
-    ∷ Month 1 1092 1
-    ∷ Refusal (byName 1 1092 11 0 50)
-    ∷ Refusal (byName 1 1092 11 0 51)
-    -- case 5
-    ∷ Head 1 1094
-    ∷ Months 1 1094
-    ∷ Days 1 1094
-    ∷ Refusal (byOrdinal 1 1094 385)
-    -- case 6
-    ∷ Number 1 1094 8
-    ∷ Month 1 1094 8
-    -- cases 7 and 8
-    ∷ Solstice 2 1106
-    ∷ FirstMoon 2 1106
-    ∷ Months 2 1106
-    -- case 9: four records of one day
-    ∷ Stored (0x0A ∷ 0x00 ∷ 0x01 ∷ 0x00 ∷ 0x01 ∷ 0x46 ∷ 0x04 ∷ 0x05 ∷ 0x01 ∷ 0x01 ∷ [])
-    ∷ Stored (0x0A ∷ 0x00 ∷ 0x02 ∷ 0x00 ∷ 0x01 ∷ 0x46 ∷ 0x04 ∷ 0x05 ∷ 0x01 ∷ 0x25 ∷ [])
-    ∷ Stored (0x09 ∷ 0x00 ∷ 0x03 ∷ 0x00 ∷ 0x01 ∷ 0x46 ∷ 0x04 ∷ 0xD0 ∷ 0x00 ∷ [])
-    ∷ Stored (0x09 ∷ 0x00 ∷ 0x04 ∷ 0x00 ∷ 0x01 ∷ 0x68 ∷ 0x5C ∷ 0x20 ∷ 0x00 ∷ [])
-    -- case 10: the second month is leap 11
-    ∷ Months 2 1108
-    ∷ Number 2 1108 2
-    ∷ []
-
--- All four store as the first.
+-- The first record of case 9, as which all four are stored.
 pub first-of-case-9 : List ℕ
 first-of-case-9 = 0x0A ∷ 0x00 ∷ 0x01 ∷ 0x00 ∷ 0x01 ∷ 0x46 ∷ 0x04 ∷ 0x05 ∷ 0x01 ∷ 0x01 ∷ []
 
-pub examples :
-    map answer questions
-    ≡ (2_119_895 ∷ 24 ∷ 2320 ∷ [])
-    ∷ (28_067 ∷ 2_119_892 ∷ 21 ∷ 10_343 ∷ [])
-    ∷ (12 ∷ [])
-    ∷ (355 ∷ [])
-    ∷ (0 ∷ [])
-    ∷ (7 ∷ [])
-    ∷ (11 ∷ 0 ∷ [])
-    ∷ (2_119_892 ∷ 30 ∷ [])
-    ∷ (0 ∷ [])
-    ∷ (7 ∷ [])
-    ∷ (2_120_601 ∷ [])
-    ∷ (13 ∷ [])
-    ∷ (384 ∷ [])
-    ∷ (7 ∷ [])
-    ∷ (5 ∷ 1 ∷ [])
-    ∷ (2_120_808 ∷ 29 ∷ [])
-    ∷ (2_125_008 ∷ 37 ∷ 4536 ∷ [])
-    ∷ (50_806 ∷ 2_125_001 ∷ 30 ∷ 4760 ∷ [])
-    ∷ (12 ∷ [])
-    ∷ first-of-case-9
-    ∷ first-of-case-9
-    ∷ first-of-case-9
-    ∷ first-of-case-9
-    ∷ (13 ∷ [])
-    ∷ (11 ∷ 1 ∷ [])
+infix 20 _gives_
+
+-- A question and the paper's answer.
+pub data Row : Type 0 where
+  _gives_ : Question → List ℕ → Row
+
+pub asked : Row → List ℕ
+asked (question gives expected) = answer question
+
+pub expected : Row → List ℕ
+expected (question gives numbers) = numbers
+
+pub table : List Row
+table =
+    -- cases 1 and 2
+    (Solstice 1 1092 gives (2_119_895 ∷ 24 ∷ 2320 ∷ []))
+    ∷ (FirstMoon 1 1092 gives (28_067 ∷ 2_119_892 ∷ 21 ∷ 10_343 ∷ []))
+    -- case 3
+    ∷ (Months 1 1092 gives (12 ∷ []))
+    ∷ (Days 1 1092 gives (355 ∷ []))
+    ∷ (Refusal (byOrdinal 1 1092 355) gives (0 ∷ []))
+    ∷ (Refusal (byOrdinal 1 1092 356) gives (7 ∷ []))
+    -- case 4: month 11 is the first
+    ∷ (Number 1 1092 1 gives (11 ∷ 0 ∷ []))
+    ∷ (Month 1 1092 1 gives (2_119_892 ∷ 30 ∷ []))
+    ∷ (Refusal (byName 1 1092 11 0 50) gives (0 ∷ []))
+    ∷ (Refusal (byName 1 1092 11 0 51) gives (7 ∷ []))
+    -- case 5
+    ∷ (Head 1 1094 gives (2_120_601 ∷ []))
+    ∷ (Months 1 1094 gives (13 ∷ []))
+    ∷ (Days 1 1094 gives (384 ∷ []))
+    ∷ (Refusal (byOrdinal 1 1094 385) gives (7 ∷ []))
+    -- case 6
+    ∷ (Number 1 1094 8 gives (5 ∷ 1 ∷ []))
+    ∷ (Month 1 1094 8 gives (2_120_808 ∷ 29 ∷ []))
+    -- cases 7 and 8
+    ∷ (Solstice 2 1106 gives (2_125_008 ∷ 37 ∷ 4536 ∷ []))
+    ∷ (FirstMoon 2 1106 gives (50_806 ∷ 2_125_001 ∷ 30 ∷ 4760 ∷ []))
+    ∷ (Months 2 1106 gives (12 ∷ []))
+    -- case 9: four records of one day
+    ∷ (Stored first-of-case-9 gives first-of-case-9)
+    ∷ (Stored (0x0A ∷ 0x00 ∷ 0x02 ∷ 0x00 ∷ 0x01 ∷ 0x46 ∷ 0x04 ∷ 0x05 ∷ 0x01 ∷ 0x25 ∷ []) gives first-of-case-9)
+    ∷ (Stored (0x09 ∷ 0x00 ∷ 0x03 ∷ 0x00 ∷ 0x01 ∷ 0x46 ∷ 0x04 ∷ 0xD0 ∷ 0x00 ∷ []) gives first-of-case-9)
+    ∷ (Stored (0x09 ∷ 0x00 ∷ 0x04 ∷ 0x00 ∷ 0x01 ∷ 0x68 ∷ 0x5C ∷ 0x20 ∷ 0x00 ∷ []) gives first-of-case-9)
+    -- case 10: the second month is leap 11
+    ∷ (Months 2 1108 gives (13 ∷ []))
+    ∷ (Number 2 1108 2 gives (11 ∷ 1 ∷ []))
     ∷ []
-unfolding answer questions first-of-case-9 then byOrdinal byName solsticeOf yearOf yearRefusal monthsFrom filled refusalOf storedInto judgeOf judgeKind judgeDay judgeName judgeOrdinal judgeRegisterDay daysOf monthOf monthIn dateOf dateIn
+
+pub examples : map asked table ≡ map expected table
+unfolding answer asked expected table first-of-case-9 then byOrdinal byName solsticeOf yearOf yearRefusal monthsFrom filled refusalOf storedInto judgeOf judgeKind judgeDay judgeName judgeOrdinal judgeRegisterDay daysOf monthOf monthIn dateOf dateIn
 examples = refl

@@ -56,14 +56,11 @@ fn below_100(out: &mut [u8], at: usize, n: u32) -> usize
     )
 }
 
-// A number.
-pub(crate) fn number(out: &mut [u8], at: usize, n: u32) -> usize
-    requires { ⌜ at + 10 ≤ length (now out) ⌝ }
+// A number of three digits or more.
+fn large(out: &mut [u8], at: usize, n: u32) -> usize
+    requires { ⌜ (at + 10 ≤ length (now out)) × (100 ≤ n) ⌝ }
     ensures { λ r. ⌜ Wrote (now (out .entry)) at (decimal n) (now (out .exit)) r × (r ≤ at + 10) ⌝ }
 {
-    if n < 100 {
-        return below_100(out, at, n);
-    }
     if n < 10_000 {
         let next = below_100(out, at, n / 100);
         return two_digits(out, next, n % 100);
@@ -84,6 +81,17 @@ pub(crate) fn number(out: &mut [u8], at: usize, n: u32) -> usize
     let third = two_digits(out, second, n / 10_000 % 100);
     let last = two_digits(out, third, n / 100 % 100);
     two_digits(out, last, n % 100)
+}
+
+// A number. Most are small, so that the rest is kept apart and this can be inlined.
+pub(crate) fn number(out: &mut [u8], at: usize, n: u32) -> usize
+    requires { ⌜ at + 10 ≤ length (now out) ⌝ }
+    ensures { λ r. ⌜ Wrote (now (out .entry)) at (decimal n) (now (out .exit)) r × (r ≤ at + 10) ⌝ }
+{
+    if n < 100 {
+        return below_100(out, at, n);
+    }
+    large(out, at, n)
 }
 
 // A space and a number.
