@@ -64,7 +64,6 @@ pub first-of-case-9 : List ℕ
 first-of-case-9 = 0x0A ∷ 0x00 ∷ 0x01 ∷ 0x00 ∷ 0x01 ∷ 0x46 ∷ 0x04 ∷ 0x05 ∷ 0x01 ∷ 0x01 ∷ []
 
 infix 20 _gives_
-
 -- A question and the paper's answer.
 pub data Row : Type 0 where
   _gives_ : Question → List ℕ → Row

@@ -6,10 +6,12 @@ ghost use lib.Dec.{eqb};
 ghost use lib.ListN.{length};
 ghost use Rattle.lines.specs.Line.{dateText, dayLine, refusedLine, lineOf};
 ghost use Rattle.lines.specs.Wrote.{Wrote};
+ghost use Rattle.citation.proofs.SmallFields.{SmallFields};
+use crate::put::below_100;
 use crate::put::byte;
 use crate::put::field;
-use crate::put::number;
 use crate::put::pair;
+use crate::put::small_field;
 use crate::put::wide;
 use calendar::data::RegisterDay;
 use citation::judge::Judgement;
@@ -31,25 +33,25 @@ fn stars(leap: u8) -> usize
 
 // A date by the fields of its stored record.
 fn put_date(out: &mut [u8], start: usize, stored: [u8; 10]) -> usize
-    requires { ⌜ start + 48 ≤ length (now out) ⌝ }
+    requires { ⌜ (start + 48 ≤ length (now out)) × SmallFields stored ⌝ }
     ensures { λ r. ⌜ Wrote (now (out .entry)) start (dateText stored) (now (out .exit)) r × (r ≤ start + 36) ⌝ }
 {
     let year = wide(stored[5]) + 256 * wide(stored[6]);
     let at = byte(out, start, letter(stored[4]));
     let at = field(out, at, year);
-    let at = field(out, at, wide(stored[7]));
+    let at = small_field(out, at, wide(stored[7]));
     let at = pair(out, at, stars(stored[8]), b'*', b' ');
-    number(out, at, wide(stored[9]))
+    below_100(out, at, wide(stored[9]))
 }
 
 // The line of a day.
 fn put_day(out: &mut [u8], start: usize, stored: [u8; 10], day: RegisterDay) -> usize
-    requires { ⌜ start + 64 ≤ length (now out) ⌝ }
+    requires { ⌜ (start + 64 ≤ length (now out)) × SmallFields stored ⌝ }
     ensures { λ r. ⌜ Wrote (now (out .entry)) start (dayLine stored (day .0)) (now (out .exit)) r × (r ≤ start + 64) ⌝ }
 {
     let at = put_date(out, start, stored);
     let at = field(out, at, day.0);
-    let at = field(out, at, wide(reckoning::day_name(day).0));
+    let at = small_field(out, at, wide(reckoning::day_name(day).0));
     byte(out, at, b'\n')
 }
 

@@ -43,7 +43,7 @@ fn two_digits(out: &mut [u8], at: usize, n: u32) -> usize
     pair(out, at, 1, (48 + n / 10) as u8, (48 + n % 10) as u8)
 }
 
-fn below_100(out: &mut [u8], at: usize, n: u32) -> usize
+pub(crate) fn below_100(out: &mut [u8], at: usize, n: u32) -> usize
     requires { ⌜ (at + 2 ≤ length (now out)) × (n < 100) ⌝ }
     ensures { λ r. ⌜ Wrote (now (out .entry)) at (decimal n) (now (out .exit)) r × (r ≤ at + 2) ⌝ }
 {
@@ -83,7 +83,7 @@ fn large(out: &mut [u8], at: usize, n: u32) -> usize
     two_digits(out, last, n % 100)
 }
 
-// A number. Most are small, so that the rest is kept apart and this can be inlined.
+// A number.
 pub(crate) fn number(out: &mut [u8], at: usize, n: u32) -> usize
     requires { ⌜ at + 10 ≤ length (now out) ⌝ }
     ensures { λ r. ⌜ Wrote (now (out .entry)) at (decimal n) (now (out .exit)) r × (r ≤ at + 10) ⌝ }
@@ -101,6 +101,15 @@ pub(crate) fn field(out: &mut [u8], at: usize, n: u32) -> usize
 {
     let next = byte(out, at, b' ');
     number(out, next, n)
+}
+
+// A space and a number of two digits at most: the callers' commonest, and small enough to be inlined.
+pub(crate) fn small_field(out: &mut [u8], at: usize, n: u32) -> usize
+    requires { ⌜ (at + 3 ≤ length (now out)) × (n < 100) ⌝ }
+    ensures { λ r. ⌜ Wrote (now (out .entry)) at (field n) (now (out .exit)) r × (r ≤ at + 3) ⌝ }
+{
+    let next = byte(out, at, b' ');
+    below_100(out, next, n)
 }
 
 pub(crate) fn wide(x: u8) -> u32

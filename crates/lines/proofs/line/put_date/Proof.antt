@@ -1,11 +1,10 @@
-use lib.ListN.{getD}
-use Rattle.lines.specs.Line.{star}
 use Prim.Native.Nat.{_+_, _*_}
 use mathlib.Core.Path.{_≡_, subst, ap, ap₂, _∙_}
 use native.Mathlib.Omega.{arith}
 use mathlib.Core.List.{[], _∷_, _++_}
+use lib.ListN.{getD}
 use Rattle.lines.specs.Decimal.{decimal}
-use Rattle.lines.specs.Line.{field}
+use Rattle.lines.specs.Line.{field, star}
 use Rattle.lines.specs.Wrote.{Wrote}
 use Rattle.lines.proofs.Writing.{wrote-then}
 use Rattle.lines.proofs.Lines.{star-and-space}
@@ -49,8 +48,8 @@ array-read-wide-3 c = search needs
 wide-requires-3 : tie.Need-wide-requires-3
 wide-requires-3 c κs = search needs
 
-field-requires-2 : tie.Need-field-requires-2
-field-requires-2 c κs = search needs
+small-field-requires : tie.Need-small-field-requires
+small-field-requires c κs = search needs
 
 array-read-stars : tie.Need-array-read-stars
 array-read-stars c = search needs
@@ -67,14 +66,14 @@ array-read-wide-4 c = search needs
 wide-requires-4 : tie.Need-wide-requires-4
 wide-requires-4 c κs = search needs
 
-number-requires : tie.Need-number-requires
-number-requires c κs = search needs
+below-100-requires : tie.Need-below-100-requires
+below-100-requires c κs = search needs
 
 same-length : tie.Need-same-length
 same-length c = search needs
 
 returns : tie.Need-returns
-returns c = let year = ap₂ (λ a b. a + 256 * b) (c .before .before .before .before .before .before .before .before .before .before .before .before .before .before .before .before .before .before .before .before .before .before .before .before .before .wide .ensures .0) (c .before .before .before .before .before .before .before .before .before .before .before .before .before .before .before .before .before .before .before .before .before .before .before .before .wide2 .ensures .0) in let last = star-and-space (getD (c .before .before .before .before .before .before .before .before .before .before .before .before .before .before .before .before .before .before .before .before .before .before .before .before .before .before .before .args .t3) 8 0) (c .before .before .before .before .before .before .before .before .stars .result) (decimal (c .before .before .before .wide4 .result)) (c .before .before .before .before .before .before .before .before .stars .ensures .0) ∙ ap (λ n. star (getD (c .before .before .before .before .before .before .before .before .before .before .before .before .before .before .before .before .before .before .before .before .before .before .before .before .before .before .before .args .t3) 8 0) ++ field n) (c .before .before .before .wide4 .ensures .0) in (subst (λ t. Wrote (c .before .before .before .before .before .before .before .before .before .before .before .before .before .before .before .before .before .before .before .before .before .before .before .before .before .before .before .args .out .now) (c .before .before .before .before .before .before .before .before .before .before .before .before .before .before .before .before .before .before .before .before .before .before .before .before .before .before .before .args .start) t (c .before .before .number .last .0) (c .before .before .number .result)) (λ i. (c .before .before .before .before .before .before .before .before .before .before .before .before .before .before .before .before .before .before .before .before .before .before .letter .ensures i ∷ []) ++ (field (year i) ++ (field (c .before .before .before .before .before .before .before .before .before .before .before .before .before .wide3 .ensures .0 i) ++ last i))) (wrote-then _ _ _ _ _ _ _ _ (c .before .before .before .before .before .before .before .before .before .before .before .before .before .before .before .before .before .before .before .before .before .byte .ensures .0) (wrote-then _ _ _ _ _ _ _ _ (c .before .before .before .before .before .before .before .before .before .before .before .before .before .before .before .before .before .field .ensures .0) (wrote-then _ _ _ _ _ _ _ _ (c .before .before .before .before .before .before .before .before .before .before .before .before .field2 .ensures .0) (wrote-then _ _ _ _ _ _ _ _ (c .before .before .before .before .before .before .before .pair .ensures .0) (c .before .before .number .ensures .0))))), omega arith)
+returns c = let year = ap₂ (λ a b. a + 256 * b) (c .before .before .before .before .before .before .before .before .before .before .before .before .before .before .before .before .before .before .before .before .before .before .before .before .before .wide .ensures .0) (c .before .before .before .before .before .before .before .before .before .before .before .before .before .before .before .before .before .before .before .before .before .before .before .before .wide2 .ensures .0) in let last = star-and-space (getD (c .before .before .before .before .before .before .before .before .before .before .before .before .before .before .before .before .before .before .before .before .before .before .before .before .before .before .before .args .t3) 8 0) (c .before .before .before .before .before .before .before .before .stars .result) (decimal (c .before .before .before .wide4 .result)) (c .before .before .before .before .before .before .before .before .stars .ensures .0) ∙ ap (λ n. star (getD (c .before .before .before .before .before .before .before .before .before .before .before .before .before .before .before .before .before .before .before .before .before .before .before .before .before .before .before .args .t3) 8 0) ++ field n) (c .before .before .before .wide4 .ensures .0) in (subst (λ t. Wrote (c .before .before .before .before .before .before .before .before .before .before .before .before .before .before .before .before .before .before .before .before .before .before .before .before .before .before .before .args .out .now) (c .before .before .before .before .before .before .before .before .before .before .before .before .before .before .before .before .before .before .before .before .before .before .before .before .before .before .before .args .start) t (c .before .before .below-100 .last .0) (c .before .before .below-100 .result)) (λ i. (c .before .before .before .before .before .before .before .before .before .before .before .before .before .before .before .before .before .before .before .before .before .before .letter .ensures i ∷ []) ++ (field (year i) ++ (field (c .before .before .before .before .before .before .before .before .before .before .before .before .before .wide3 .ensures .0 i) ++ last i))) (wrote-then _ _ _ _ _ _ _ _ (c .before .before .before .before .before .before .before .before .before .before .before .before .before .before .before .before .before .before .before .before .before .byte .ensures .0) (wrote-then _ _ _ _ _ _ _ _ (c .before .before .before .before .before .before .before .before .before .before .before .before .before .before .before .before .before .field .ensures .0) (wrote-then _ _ _ _ _ _ _ _ (c .before .before .before .before .before .before .before .before .before .before .before .before .small-field .ensures .0) (wrote-then _ _ _ _ _ _ _ _ (c .before .before .before .before .before .before .before .pair .ensures .0) (c .before .before .below-100 .ensures .0))))), omega arith)
 
 pub put-date-spec : {M : Type 1} → statement M
 put-date-spec =
@@ -92,12 +91,12 @@ put-date-spec =
     field-requires
     array-read-wide-3
     wide-requires-3
-    field-requires-2
+    small-field-requires
     array-read-stars
     stars-requires
     pair-requires
     array-read-wide-4
     wide-requires-4
-    number-requires
+    below-100-requires
     same-length
     returns)

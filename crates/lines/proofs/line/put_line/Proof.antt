@@ -1,4 +1,6 @@
 use mathlib.Core.Path.{subst}
+use native.Mathlib.Omega.{arith}
+use Rattle.citation.proofs.SmallFields.{small-fields}
 use Rattle.lines.specs.Wrote.{Wrote}
 use Rattle.lines.proofs.Lines.{line-refused, line-accepted}
 use borrow.Author.Needs.{needs}
@@ -18,7 +20,7 @@ returns : tie.Need-returns
 returns c = (subst (λ t. Wrote (c .before .before .before .before .before .before .before .before .args .out .now) (c .before .before .before .before .before .before .before .before .args .start) t (c .before .before .put-refusal .last .0) (c .before .before .put-refusal .result)) (line-refused _ _ (c .before .before .before .before .before .judge .ensures) (c .before .before .before .before .if1 .taken)) (c .before .before .put-refusal .ensures .0), c .before .before .put-refusal .ensures .1)
 
 put-day-requires : tie.Need-put-day-requires
-put-day-requires c κs = search needs
+put-day-requires c κs = (omega arith, small-fields _ _ (c .before .before .before .judge .ensures) (c .before .before .if1 .left))
 
 same-length-2 : tie.Need-same-length-2
 same-length-2 c = search needs
