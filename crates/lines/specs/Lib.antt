@@ -5,5 +5,7 @@ pub mod Decimal
 pub mod Line
 -- Text written into an output.
 pub mod Wrote
+-- Text put into an output where there is room for it.
+pub mod Put
 -- What the program writes.
 pub mod Program

@@ -1,0 +1,16 @@
+use native.Mathlib.Omega.{arith}
+use borrow.Author.Tests.{le-leb, lt-leb}
+use Rattle.almanac.proofs.arguments.is_digit.Statement.{statement}
+use Rattle.almanac.proofs.arguments.is_digit.Tie as tie
+
+returns : tie.Need-returns
+returns c = simp (lt-leb 48 (c .before .args .byte) (omega arith))
+
+returns-2 : tie.Need-returns-2
+returns-2 c = simp (le-leb 48 (c .before .before .args .byte) (omega arith), lt-leb (c .before .before .args .byte) 57 (omega arith))
+
+returns-3 : tie.Need-returns-3
+returns-3 c = simp (le-leb 48 (c .before .before .args .byte) (omega arith), le-leb (c .before .before .args .byte) 57 (omega arith))
+
+pub is-digit-spec : {M : Type 1} → statement M
+is-digit-spec = tie.close (tie.spec returns returns-2 returns-3)

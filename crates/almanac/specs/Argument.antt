@@ -1,0 +1,29 @@
+-- A decimal argument.
+use Prim.Native.Nat.{ℕ, _+_, _*_, _-_, min}
+use mathlib.Core.Bool.{Bool, true, cond, _&&_}
+use mathlib.Core.List.{List, [], _∷_}
+use lib.Dec.{leb}
+use Rattle.almanac.specs.declared.arguments.Argument.{Argument}
+
+-- The largest number told; larger ones are taken as it.
+abbrev pub most : ℕ
+most = 18_446_744_073_709_551_615
+
+-- '0' is 48 and '9' is 57.
+abbrev pub isDigit : ℕ → Bool
+isDigit byte = leb 48 byte && leb byte 57
+
+unfoldable pub allDigits : List ℕ → Bool
+allDigits [] = true
+allDigits (byte ∷ text) = isDigit byte && allDigits text
+
+-- The number n with the digits of a text written after it.
+unfoldable pub withDigits : ℕ → List ℕ → ℕ
+withDigits n [] = n
+withDigits n (byte ∷ text) = withDigits (n * 10 + (byte - 48)) text
+
+-- A number is one digit or more and nothing else.
+unfoldable pub argumentOf : List ℕ → Argument
+argumentOf [] = Argument.Other
+argumentOf (byte ∷ text) =
+    cond (allDigits (byte ∷ text)) (Argument.Number (min most (withDigits 0 (byte ∷ text)))) Argument.Other

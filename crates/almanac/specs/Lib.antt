@@ -1,0 +1,3 @@
+-- What the program's functions promise.
+-- Decimal arguments.
+pub mod Argument

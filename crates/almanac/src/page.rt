@@ -1,0 +1,227 @@
+// The page of a year. Each function asks for the room that its longest text takes, a number taking ten digits.
+ghost use Prim.Native.Nat.{_+_, _≤_, _<_};
+ghost use lib.ListN.{length};
+ghost use Rattle.reckoning.specs.YearValue.{Tiled};
+use crate::text::field;
+use crate::text::word;
+use calendar::data::RegisterDay;
+use reckoning::data::Qi;
+use reckoning::data::Sheet;
+use reckoning::data::Solstice;
+use reckoning::data::Year;
+
+fn wide(x: u8) -> u32 {
+    x as u32
+}
+
+fn name(day: RegisterDay) -> u32 {
+    wide(reckoning::day_name(day).0)
+}
+
+// A register day and its name.
+fn day(out: &mut [u8], at: usize, day: RegisterDay) -> usize
+    requires { ⌜ at + 22 ≤ length (now out) ⌝ }
+    ensures { λ r. ⌜ r ≤ at + 22 ⌝ }
+{
+    let at = field(out, at, day.0);
+    field(out, at, name(day))
+}
+
+fn system_letter(out: &mut [u8], at: usize, system: u32) -> usize
+    requires { ⌜ at + 2 ≤ length (now out) ⌝ }
+    ensures { λ r. ⌜ r ≤ at + 2 ⌝ }
+{
+    if system == 1 {
+        return word(out, at, b" G");
+    }
+    word(out, at, b" J")
+}
+
+fn refused_line(out: &mut [u8], at: usize, refusal: u8) -> usize
+    requires { ⌜ at + 19 ≤ length (now out) ⌝ }
+    ensures { λ r. ⌜ r ≤ at + 19 ⌝ }
+{
+    let at = word(out, at, b"refused");
+    let at = field(out, at, wide(refusal));
+    word(out, at, b"\n")
+}
+
+fn year_line(out: &mut [u8], at: usize, system: u32, year: u32, months: u8, days: u16) -> usize
+    requires { ⌜ at + 40 ≤ length (now out) ⌝ }
+    ensures { λ r. ⌜ r ≤ at + 40 ⌝ }
+{
+    let at = word(out, at, b"year");
+    let at = system_letter(out, at, system);
+    let at = field(out, at, year);
+    let at = field(out, at, wide(months));
+    let at = field(out, at, days as u32);
+    word(out, at, b"\n")
+}
+
+fn solstice_line(out: &mut [u8], at: usize, solstice: Solstice) -> usize
+    requires { ⌜ at + 42 ≤ length (now out) ⌝ }
+    ensures { λ r. ⌜ r ≤ at + 42 ⌝ }
+{
+    let at = word(out, at, b"solstice");
+    let at = day(out, at, solstice.day);
+    let at = field(out, at, solstice.remainder);
+    word(out, at, b"\n")
+}
+
+fn qi_line(out: &mut [u8], at: usize, i: u32, qi: Qi) -> usize
+    requires { ⌜ at + 58 ≤ length (now out) ⌝ }
+    ensures { λ r. ⌜ r ≤ at + 58 ⌝ }
+{
+    let at = word(out, at, b"qi");
+    let at = field(out, at, i);
+    let at = day(out, at, qi.day);
+    let at = field(out, at, qi.parts);
+    let at = field(out, at, qi.units);
+    word(out, at, b"\n")
+}
+
+fn qi_lines(out: &mut [u8], start: usize, system: u32, year: u32) -> usize
+    requires { ⌜ start + 1392 ≤ length (now out) ⌝ }
+    ensures { λ r. ⌜ r ≤ start + 1392 ⌝ }
+{
+    let mut at = start;
+    let mut i = 0;
+    while i < 24 {
+        at = qi_line(out, at, i, reckoning::qi(system, year, i));
+        i += 1;
+    }
+    at
+}
+
+// The solstice and the qi of a year.
+fn solar_lines(out: &mut [u8], at: usize, system: u32, year: u32) -> usize
+    requires { ⌜ at + 1434 ≤ length (now out) ⌝ }
+    ensures { λ r. ⌜ r ≤ at + 1434 ⌝ }
+{
+    let at = solstice_line(out, at, reckoning::solstice(system, year));
+    qi_lines(out, at, system, year)
+}
+
+// A leap month has a star directly after its number.
+fn star(out: &mut [u8], at: usize, leap: u8) -> usize
+    requires { ⌜ at + 1 ≤ length (now out) ⌝ }
+    ensures { λ r. ⌜ r ≤ at + 1 ⌝ }
+{
+    if leap == 0 {
+        return at;
+    }
+    word(out, at, b"*")
+}
+
+fn month_line(
+    out: &mut [u8],
+    at: usize,
+    place: u32,
+    number: u8,
+    leap: u8,
+    head: RegisterDay,
+    days: u32,
+) -> usize
+    requires { ⌜ at + 62 ≤ length (now out) ⌝ }
+    ensures { λ r. ⌜ r ≤ at + 62 ⌝ }
+{
+    let at = word(out, at, b"month");
+    let at = field(out, at, place);
+    let at = field(out, at, wide(number));
+    let at = star(out, at, leap);
+    let at = day(out, at, head);
+    let at = field(out, at, days);
+    word(out, at, b"\n")
+}
+
+// The line of the month at place i, from 0.
+fn month_at(out: &mut [u8], at: usize, months: Year, i: usize) -> usize
+    requires { ⌜ (at + 62 ≤ length (now out)) × Tiled months × (i < months .count) ⌝ }
+    ensures { λ r. ⌜ r ≤ at + 62 ⌝ }
+{
+    let head = months.heads[i];
+    let next = months.heads[i + 1];
+    let number = months.numbers[i];
+    let leap = months.leaps[i];
+    let place = i as u32 + 1;
+    month_line(out, at, place, number, leap, head, next.0 - head.0)
+}
+
+fn month_lines(out: &mut [u8], start: usize, months: Year) -> usize
+    requires { ⌜ (start + 806 ≤ length (now out)) × Tiled months ⌝ }
+    ensures { λ r. ⌜ r ≤ start + 806 ⌝ }
+{
+    let count = months.count as usize;
+    let mut at = start;
+    let mut i = 0;
+    while i < count {
+        at = month_at(out, at, months, i);
+        i += 1;
+    }
+    at
+}
+
+// The head of the next year.
+fn next_line(out: &mut [u8], at: usize, months: Year) -> usize
+    requires { ⌜ (at + 16 ≤ length (now out)) × Tiled months ⌝ }
+    ensures { λ r. ⌜ r ≤ at + 16 ⌝ }
+{
+    let count = months.count as usize;
+    let head = months.heads[count];
+    let at = word(out, at, b"next");
+    let at = field(out, at, head.0);
+    word(out, at, b"\n")
+}
+
+// The months of a year, and where the next begins.
+fn lunar_lines(out: &mut [u8], at: usize, months: Year) -> usize
+    requires { ⌜ (at + 822 ≤ length (now out)) × Tiled months ⌝ }
+    ensures { λ r. ⌜ r ≤ at + 822 ⌝ }
+{
+    let at = month_lines(out, at, months);
+    next_line(out, at, months)
+}
+
+// The names of the sheet up to the year's end, after which it holds 255.
+fn sheet_names(out: &mut [u8], start: usize, sheet: Sheet) -> usize
+    requires { ⌜ start + 4224 ≤ length (now out) ⌝ }
+    ensures { λ r. ⌜ r ≤ start + 4224 ⌝ }
+{
+    let mut at = start;
+    let mut i = 0;
+    while i < 384 {
+        let name = sheet.names[i];
+        if name == 255 {
+            return at;
+        }
+        at = field(out, at, wide(name));
+        i += 1;
+    }
+    at
+}
+
+fn names_line(out: &mut [u8], at: usize, sheet: Sheet) -> usize
+    requires { ⌜ at + 4230 ≤ length (now out) ⌝ }
+    ensures { λ r. ⌜ r ≤ at + 4230 ⌝ }
+{
+    let at = word(out, at, b"names");
+    let at = sheet_names(out, at, sheet);
+    word(out, at, b"\n")
+}
+
+// The page of a year, or the line of its refusal.
+pub(crate) fn page(out: &mut [u8], start: usize, system: u32, year: u32) -> usize
+    requires { ⌜ start + 8192 ≤ length (now out) ⌝ }
+    ensures { λ r. ⌜ r ≤ start + 8192 ⌝ }
+{
+    let months = reckoning::year(system, year);
+    let refusal = months.refusal;
+    if refusal != 0 {
+        return refused_line(out, start, refusal);
+    }
+    let days = reckoning::days(system, year);
+    let at = year_line(out, start, system, year, months.count, days.length);
+    let at = solar_lines(out, at, system, year);
+    let at = lunar_lines(out, at, months);
+    names_line(out, at, reckoning::sheet(system, year))
+}
