@@ -85,8 +85,8 @@ module _ (c : Constants) (ok : Consistent c) (n : ℕ) (v : Year) (y : ListsMont
   place-in-year i h = record { span = y .span; from = omega arith; before = omega (arith, last) }
 
   -- Where a month of the year stands in the value.
-  placed : (k : ℕ) → y .span .first ≤ k → k < y .span .next → (k - y .span .first < v .count) × (y .span .first + (k - y .span .first) ≡ k)
-  placed k a b = omega (arith, last)
+  placed : (k : ℕ) → InYear c n k → (k - y .span .first < v .count) × (y .span .first + (k - y .span .first) ≡ k)
+  placed k in-year = omega (arith, last, in-year .from, in-year .before, span-first c ok (in-year .span), span-next c ok (in-year .span), span-first c ok (y .span), span-next c ok (y .span))
 
   day-in : (i r : ℕ) → i < v .count → headIn v i ≤ r → r < headIn v (i + 1) → InMonth c (y .span .first + i) (r + c .anchor)
   day-in i r h a b = (omega (arith, head-upto i (omega arith)), omega (arith, head-after i h))
@@ -102,8 +102,7 @@ module _ (c : Constants) (ok : Consistent c) (n : ℕ) (v : Year) (y : ListsMont
       }
       in
       let one = months-cover c ok n (r + c .anchor) day in
-      let in-year = one .has .0 in
-      let at = placed (one .it) (omega (arith, in-year .from, span-first c ok (in-year .span), span-first c ok (y .span))) (omega (arith, in-year .before, span-next c ok (in-year .span), span-next c ok (y .span))) in
+      let at = placed (one .it) (one .has .0) in
       let i = one .it - y .span .first in
       record {
         it = i;
@@ -132,8 +131,7 @@ module _ (c : Constants) (ok : Consistent c) (n : ℕ) (v : Year) (y : ListsMont
             (y .leap i (omega arith));
         thirteen = λ e.
             let one = thirteen-one-leap c ok (y .span) (sym (y .count) ∙ e) in
-            let in-year = one .has .0 in
-            let at = placed (one .it) (omega (arith, in-year .from, span-first c ok (in-year .span), span-first c ok (y .span))) (omega (arith, in-year .before, span-next c ok (in-year .span), span-next c ok (y .span))) in
+            let at = placed (one .it) (one .has .0) in
             let i = one .it - y .span .first in
             record {
               it = i;
