@@ -1,6 +1,6 @@
 -- The laws of months and years, over any constants that meet the list and for every year; last, those that join the
 -- closed forms to the worded rules.
-use Prim.Native.Nat.{ℕ, zero, suc, _+_, _*_, _-_, _/_, _%_, _≤_, _<_}
+use Prim.Native.Nat.{ℕ, zero, suc, _+_, _*_, _-_, _%_, _≤_, _<_}
 use mathlib.Core.Path.{_≡_, subst, subst₂, ap}
 use mathlib.Core.Logic.{_⊎_, inl, inr, ⊎-elim}
 use native.Mathlib.Omega.{arith}
@@ -9,16 +9,16 @@ use borrow.Author.Tests.{lt-ltb, ltb-true}
 use Rattle.calendar.specs.declared.data.Constants.{Constants}
 use Rattle.calendar.specs.Inside.{Inside}
 use Rattle.calendar.specs.ExactlyOne.{ExactlyOne}
-use Rattle.calendar.specs.Month.{monthHead, InMonth, monthLength, Holds, HoldsSome, Lacks, numberOf, Bears, Marked}
+use Rattle.calendar.specs.Month.{monthHead, InMonth, monthLength, Holds, HoldsSome, Lacks}
 use Rattle.calendar.specs.Year.{Span, monthCount, yearHead, nextHead, yearLength, lengthsFrom, InYear, DayOfYear, MonthNamed}
 use Rattle.calendar.specs.Consistent.{Consistent}
 use Rattle.calendar.specs.Calendar.{Calendar}
-use Rattle.calendar.specs.ClosedForms.{monthOfQi, qiOfMonth, monthOfDay, firstMonth, yearOfMonth, monthNumber, leapMark, qiOfNumber, monthCited, leapFollows}
+use Rattle.calendar.specs.ClosedForms.{monthOfQi, qiOfMonth, monthOfDay, yearOfMonth, monthNumber, leapMark, qiOfNumber, monthCited, leapFollows}
 use Rattle.calendar.proofs.Rising.{by-order}
 use Rattle.calendar.proofs.Months.{behind-most, head-monotone, month-from, month-before, month-unique, qi-unique, qi-of-held, count-least, count-most, in-its-year, year-unique, month-again, twelve-hold, thirteen-one-lacks}
 use Rattle.calendar.proofs.Reckoned.{reckoned}
 use Rattle.calendar.proofs.Spans.{span, span-first, span-next, in-year, within}
-use Rattle.calendar.proofs.Numbers.{month-of-held, holds-of-month, held-of-holds, holds-of-held, number-unique, bears-its-number, mark-unique, marked}
+use Rattle.calendar.proofs.Numbers.{month-of-held, held-of-holds, holds-of-held, number-unique, bears-its-number, mark-unique, marked}
 
 module _ (c : Constants) (ok : Consistent c) where
   abbrev K : Calendar

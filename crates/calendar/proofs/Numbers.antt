@@ -3,12 +3,9 @@ use Prim.Native.Nat.{ℕ, zero, suc, _+_, _*_, _-_, _/_, _%_, _≤_, _<_}
 use mathlib.Core.Path.{_≡_, _∙_, subst, sym, ap}
 use mathlib.Core.Logic.{_⊎_, inl, inr, ⊎-elim}
 use native.Mathlib.Nat.{le-div-iff-mul-le, div-lt-iff-lt-mul, div-mul-le-self, lt-div-mul-add, le-of-mul-le-mul-right, lt-of-mul-lt-mul-right, mul-le-mul-right, mul-lt-mul-of-pos-right}
-use native.Mathlib.Numerals.{add-one}
 use native.Mathlib.Omega.{arith}
 use Rattle.calendar.specs.declared.data.Constants.{Constants}
-use Rattle.calendar.specs.Qi.{step}
-use Rattle.calendar.specs.Month.{newMoon, middleQi, Holds, HoldsSome, Lacks, numberOf, Bears, ordinary, leap, Marked}
-use Rattle.calendar.specs.Year.{InYear, MonthNamed}
+use Rattle.calendar.specs.Month.{middleQi, Holds, HoldsSome, Lacks, numberOf, Bears, ordinary, leap, Marked}
 use Rattle.calendar.specs.Consistent.{Consistent}
 use Rattle.calendar.specs.Calendar.{Calendar}
 use Rattle.calendar.specs.ClosedForms.{monthOfQi, qiOfMonth, monthNumber, leapMark}

@@ -1,5 +1,5 @@
 -- What the laws ask of a system's constants: a short list, checked for each system by computing.
-use Prim.Native.Nat.{ℕ, _+_, _*_, _/_, _%_, _≤_, _<_}
+use Prim.Native.Nat.{_+_, _*_, _%_, _≤_, _<_}
 use mathlib.Core.Path.{_≡_}
 use Rattle.calendar.specs.declared.data.Constants.{Constants}
 use Rattle.calendar.specs.Qi.{step}

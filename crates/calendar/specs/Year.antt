@@ -1,6 +1,5 @@
 -- Years: their months and their days. A year is told by n, the years elapsed since the epoch.
 use Prim.Native.Nat.{ℕ, zero, suc, _+_, _-_, _≤_, _<_}
-use mathlib.Core.Path.{_≡_}
 use Rattle.calendar.specs.declared.data.Constants.{Constants}
 use Rattle.calendar.specs.Qi.{solstice}
 use Rattle.calendar.specs.Month.{newMoon, monthHead, monthLength, Bears, Marked}

@@ -1,24 +1,16 @@
 -- Stored records are canonical: equal just when they name the same day in the same system.
 use Prim.Native.Nat.{ℕ, _^_, _≤_, _<_}
 use mathlib.Core.Path.{_≡_, refl, subst, ap, sym, _∙_}
-use mathlib.Core.List.{List, [], _∷_, _++_}
+use mathlib.Core.List.{List, _++_}
 use native.Mathlib.Omega.{arith}
-use lib.ListN.{length, getD, take, drop}
-use Rattle.calendar.specs.Inside.{Inside}
+use lib.ListN.{length, take, drop}
 use Rattle.calendar.specs.Systems.{constantsOf, yearsElapsed}
-use Rattle.calendar.specs.Year.{DayOfYear}
 use Rattle.calendar.proofs.EachSystem.{consistent}
 use Rattle.calendar.proofs.Reckoned.{reckoned}
 use Rattle.calendar.proofs.Spans.{within}
 use Rattle.reckoning.proofs.Scope.{reach}
-use Rattle.reckoning.specs.declared.data.Date.{Date}
-use Rattle.reckoning.specs.Scope.{InScope}
-use Rattle.reckoning.specs.Requests.{dateOf}
-use Rattle.reckoning.specs.Outcomes.{DateOutcome, DayInScope}
-use Rattle.reckoning.proofs.Outcomes.{date-outcome}
-use Rattle.citation.specs.Record.{byte, Bytes, lengthField, kindOf, systemOf, yearField, monthField, leapField, dayField, recordOf}
-use Rattle.citation.specs.Named.{constantsIn, Names, OnDate}
-use Rattle.reckoning.specs.Rows.{FirstOf}
+use Rattle.citation.specs.Record.{kindOf, systemOf, recordOf}
+use Rattle.citation.specs.Named.{Names, OnDate}
 use Rattle.citation.specs.Refused.{Accepted, citationRows}
 use Rattle.citation.specs.Demanded.{stored}
 use Rattle.citation.specs.Store.{judgeOf, refusalOf, answerOf, storedInto}
@@ -29,7 +21,6 @@ use Rattle.citation.proofs.StoredRecord.{record-accepted, record-names}
 use Rattle.citation.proofs.Judged.{Judged, Kept}
 use Rattle.citation.proofs.Refusals.{judged}
 use Rattle.citation.proofs.Storing.{refusal-none, answer-accepted, output-accepted}
-use Rattle.citation.proofs.TenBytes.{elements, elements-all}
 
 -- An accepted citation's judgement is no refusal, and keeps the day that it names.
 pub record Passed (s : List ℕ) : Type 0 where

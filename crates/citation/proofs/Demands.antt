@@ -2,20 +2,18 @@
 -- to answer by `answerOf`, `storedInto`, `yearOf` and their like, for every input; that it ends, the language guarantees.
 use Prim.Native.Nat.{ℕ, _*_, _^_, _≤_, _<_}
 use mathlib.Core.Path.{_≡_, refl, subst, sym, ap, _∙_}
-use mathlib.Core.Logic.{_⊎_, _↔_}
+use mathlib.Core.Logic.{_↔_}
 use mathlib.Core.List.{List}
 use lib.ListN.{length, drop}
 use Rattle.calendar.specs.declared.data.Constants.{Constants}
 use Rattle.calendar.specs.ExactlyOne.{ExactlyOne}
-use Rattle.calendar.specs.Inside.{Inside}
 use Rattle.calendar.specs.Systems.{constantsOf, yearsElapsed}
-use Rattle.calendar.specs.Month.{InMonth, monthLength, HoldsSome, Lacks}
-use Rattle.calendar.specs.Year.{Span, monthCount, InYear, DayOfYear}
+use Rattle.calendar.specs.Year.{DayOfYear}
 use Rattle.calendar.proofs.EachSystem.{consistent}
 use Rattle.calendar.proofs.Spans.{span}
 use Rattle.calendar.proofs.Laws.{month-days, year-months, months-cover, months-stay-within, twelve-none-lacks, thirteen-one-leap}
 use Rattle.reckoning.specs.Scope.{InScope}
-use Rattle.reckoning.specs.Rows.{yearRows, qiRows}
+use Rattle.reckoning.specs.Rows.{FirstOf, yearRows, qiRows}
 use Rattle.reckoning.specs.Refusal.{yearRefusal, qiRefusal}
 use Rattle.reckoning.specs.Requests.{solsticeOf, noSolstice, qiOf, noQi, yearOf, noYear, sheetOf, noSheet, daysOf, monthOf, dateOf}
 use Rattle.reckoning.specs.Outcomes.{DaysOutcome, MonthOutcome, DateOutcome}
@@ -25,9 +23,8 @@ use Rattle.reckoning.specs.YearValue.{ListsMonths, Tiled}
 use Rattle.reckoning.specs.Held.{IsSolstice, IsQi, IsSheet}
 use Rattle.reckoning.proofs.MonthsHeld as MonthsHeld
 use Rattle.reckoning.proofs.AnswersHeld as AnswersHeld
-use Rattle.citation.specs.Record.{Bytes, kindOf, systemOf, recordOf}
+use Rattle.citation.specs.Record.{kindOf, systemOf, recordOf}
 use Rattle.citation.specs.Named.{Names, OnDate}
-use Rattle.reckoning.specs.Rows.{FirstOf}
 use Rattle.citation.specs.Refused.{storingRows, Accepted}
 use Rattle.citation.specs.Store.{judgeOf, refusalOf, answerOf, storedInto}
 use Rattle.citation.proofs.OneDay.{names-unique}
@@ -37,7 +34,6 @@ use Rattle.citation.proofs.Refusals as Refusals
 use Rattle.citation.proofs.Storing.{answer-refused, output-refused}
 use Rattle.citation.proofs.Canonical as Canonical
 use Rattle.citation.specs.Demanded.{stored, OneRecord, MonthsTile}
-use Rattle.citation.proofs.Canonical.{passed}
 use Rattle.citation.proofs.KindOne as KindOne
 
 -- Demand 1. Whatever the bytes, the storing step gives the first refusal of the table that applies, and 0 where none
@@ -111,14 +107,14 @@ pub names-one-day : (s : List ℕ) → Accepted s → ExactlyOne (Names s)
 names-one-day s a =
     record {
       it = (judgeOf s) .day .0;
-      has = passed s a .kept .names;
-      only = λ r m. names-unique s r ((judgeOf s) .day .0) m (passed s a .kept .names);
+      has = Canonical.passed s a .kept .names;
+      only = λ r m. names-unique s r ((judgeOf s) .day .0) m (Canonical.passed s a .kept .names);
     }
 
 -- stored in an output of ten bytes or more,
 module _ (s before : List ℕ) (a : Accepted s) (room : 10 ≤ length before) (r : ℕ) (m : Names s r) where
   same-day : (judgeOf s) .day .0 ≡ r
-  same-day = names-unique s ((judgeOf s) .day .0) r (passed s a .kept .names) m
+  same-day = names-unique s ((judgeOf s) .day .0) r (Canonical.passed s a .kept .names) m
 
   -- it answers that day, with no refusal,
   pub answers-its-day : answerOf s (length before) ≡ r
@@ -165,7 +161,7 @@ equal-exactly-when s before t under a room b space r q m o = (λ e. (same-system
 
     same-record : systemOf s ≡ systemOf t → r ≡ q → stored s before ≡ stored t under
     same-record e f =
-        let κ = passed t b .kept in
+        let κ = Canonical.passed t b .kept in
         let day = names-unique t ((judgeOf t) .day .0) q (κ .names) o in
         Canonical.stored-of-date s before a room (systemOf t) r (κ .year) (κ .month) (κ .leap) (κ .day) e m
         (subst (λ x. OnDate (systemOf t) x (κ .year) (κ .month) (κ .leap) (κ .day)) (day ∙ sym f) (κ .dated))
@@ -180,7 +176,7 @@ pub stored-again-same : (s before under : List ℕ) → Accepted s → 10 ≤ le
 stored-again-same s before under a room space =
     let again = Canonical.stored-accepted s before a room in
     let names = Canonical.stored-names s before a room in
-    equal-exactly-when (stored s before) under s before again space a room ((judgeOf s) .day .0) ((judgeOf s) .day .0) names (passed s a .kept .names)
+    equal-exactly-when (stored s before) under s before again space a room ((judgeOf s) .day .0) ((judgeOf s) .day .0) names (Canonical.passed s a .kept .names)
     .1 (Canonical.stored-system s before a room, refl)
 
 -- In each system, every day of those years has one stored record.

@@ -5,12 +5,11 @@ use mathlib.Core.Logic.{_⊎_, inl, inr, ⊎-elim}
 use mathlib.Core.List.{List}
 use native.Mathlib.Omega.{arith}
 use Rattle.calendar.specs.declared.data.Constants.{Constants}
-use Rattle.calendar.specs.Consistent.{Consistent}
 use Rattle.calendar.specs.Inside.{Inside}
 use Rattle.calendar.specs.Systems.{yearsElapsed}
 use Rattle.calendar.specs.Name.{nameOf}
 use Rattle.calendar.specs.Month.{monthHead, InMonth, monthLength, dayOfMonth}
-use Rattle.calendar.specs.Year.{Span, yearHead, nextHead, yearLength, dayOfOrdinal, MonthNamed, HasLeap}
+use Rattle.calendar.specs.Year.{Span, yearLength, dayOfOrdinal, MonthNamed}
 use Rattle.calendar.proofs.EachSystem.{consistent}
 use Rattle.calendar.proofs.Rising.{by-order}
 use Rattle.calendar.proofs.Reckoned.{reckoned}
@@ -19,7 +18,6 @@ use Rattle.reckoning.specs.declared.data.Month.{Month}
 use Rattle.reckoning.specs.declared.data.Days.{Days}
 use Rattle.reckoning.specs.declared.data.Date.{Date}
 use Rattle.reckoning.specs.Scope.{InScope}
-use Rattle.reckoning.specs.Refusal.{outside}
 use Rattle.reckoning.specs.Requests.{daysOf, monthOf, dateOf}
 use Rattle.reckoning.specs.Outcomes.{MonthOutcome, DaysOutcome, DateOutcome, DayInScope}
 use Rattle.reckoning.proofs.Refusals.{by-inside}

@@ -1,11 +1,9 @@
 -- Citations of kind 1: one for each day of a system, and every day has one.
-use Prim.Native.Nat.{ℕ, _+_, _*_, _-_, _/_, _%_, _≤_, _<_}
-use mathlib.Core.Path.{_≡_, refl, subst, ap, sym, _∙_}
-use mathlib.Core.Logic.{_⊎_, inl, inr, ⊎-elim}
+use Prim.Native.Nat.{ℕ, _+_, _-_, _/_, _%_}
+use mathlib.Core.Path.{_≡_, ap, sym, _∙_}
 use mathlib.Core.List.{List, [], _∷_}
 use native.Mathlib.Omega.{arith}
-use lib.ListN.{length, getD}
-use Rattle.calendar.specs.Inside.{Inside}
+use lib.ListN.{length}
 use Rattle.calendar.specs.Systems.{constantsOf, yearsElapsed, registerDay}
 use Rattle.calendar.specs.Month.{monthHead, monthLength}
 use Rattle.calendar.specs.Year.{DayOfYear}
@@ -20,12 +18,10 @@ use Rattle.reckoning.proofs.InReach.{first-head}
 use Rattle.reckoning.proofs.Refusals.{by-inside}
 use Rattle.reckoning.proofs.Outcomes.{date-outcome, year-day-in-scope}
 use Rattle.citation.specs.Record.{byte, Bytes, lengthField, kindOf, kindLength, systemOf, yearField, monthField, leapField, dayField, recordOf}
-use Rattle.citation.specs.Named.{constantsIn, elapsedIn, CitedMonth, Names, OnDate}
-use Rattle.reckoning.specs.Rows.{Row, FirstOf, _when_}
-use Rattle.citation.specs.Refused.{Accepted, citationRows, TooShort, WrongKind, WrongLength, WrongSystem, WrongYear, WrongMonth, NotPlaced}
+use Rattle.citation.specs.Named.{constantsIn, Names, OnDate}
+use Rattle.citation.specs.Refused.{Accepted, citationRows, WrongLength, WrongSystem, WrongYear, NotPlaced}
 use Rattle.citation.proofs.Rows.{none-applies}
 use Rattle.citation.proofs.Judged.{day-not-placed}
-use Rattle.citation.proofs.OneDate.{record-unique}
 use Rattle.citation.proofs.Refusals.{by-equal}
 use Rattle.citation.proofs.TenBytes.{elements, elements-all}
 

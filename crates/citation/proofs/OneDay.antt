@@ -1,18 +1,17 @@
 -- A citation names one day at most.
-use Prim.Native.Nat.{ℕ, _+_, _-_, _≤_, _<_}
+use Prim.Native.Nat.{ℕ, _+_, _-_}
 use mathlib.Core.Path.{_≡_, ap, sym, _∙_, subst}
 use mathlib.Core.List.{List}
 use native.Mathlib.Omega.{arith}
 use Rattle.calendar.specs.declared.data.Constants.{Constants}
 use Rattle.calendar.specs.Consistent.{Consistent}
 use Rattle.calendar.specs.Name.{nameOf}
-use Rattle.calendar.specs.Month.{monthHead, InMonth, dayOfMonth}
-use Rattle.calendar.specs.Year.{Span}
+use Rattle.calendar.specs.Month.{monthHead, InMonth}
 use Rattle.calendar.proofs.EachSystem.{consistent}
 use Rattle.calendar.proofs.Reckoned.{reckoned}
 use Rattle.calendar.proofs.Spans.{span-first}
 use Rattle.calendar.proofs.Laws.{named-unique}
-use Rattle.citation.specs.Record.{kindOf, systemOf, monthField, leapField, dayField, ordinalField}
+use Rattle.citation.specs.Record.{systemOf, monthField, leapField}
 use Rattle.citation.specs.Named.{constantsIn, elapsedIn, CitedMonth, Names}
 
 module _ (s : List ℕ) where

@@ -1,7 +1,6 @@
 -- Every citation is judged by the table: the first refusal that applies, and none otherwise.
-use Prim.Native.Nat.{ℕ, _+_, _≤_, _<_}
+use Prim.Native.Nat.{ℕ}
 use mathlib.Core.Path.{_≡_, refl, subst, ap, sym, _∙_}
-use mathlib.Core.Bool.{false}
 use mathlib.Core.Logic.{inl, inr}
 use mathlib.Core.List.{List, [], _∷_}
 use native.Mathlib.Decide.{ℕ-discrete}
@@ -9,14 +8,13 @@ use native.Mathlib.Omega.{arith}
 use lib.ListN.{length}
 use Rattle.calendar.specs.Inside.{Inside}
 use Rattle.calendar.proofs.Rising.{by-order}
-use Rattle.reckoning.specs.Refusal.{outside}
 use Rattle.reckoning.proofs.Refusals.{by-inside}
 use Rattle.citation.specs.declared.judge.Judgement.{Judgement}
 use Rattle.citation.specs.Record.{lengthField, kindOf, kindLength}
 use Rattle.reckoning.specs.Rows.{FirstOf, _when_}
 use Rattle.citation.specs.Refused.{TooShort, WrongKind, WrongLength, NoRoom, contentRows, citationRows, storingRows}
 use Rattle.citation.specs.Store.{judgeKind, judgeOf, refusalOf}
-use Rattle.citation.proofs.Rows.{first-unique, first-before, first-after, Numbered}
+use Rattle.citation.proofs.Rows.{first-unique, first-before, first-after}
 use Rattle.citation.proofs.Judgements.{kind-one, kind-two, kind-three, kind-four, too-short, wrong-kind, wrong-field, wrong-size, right-size}
 use Rattle.citation.proofs.Judged.{Judged, day-judged, name-judged, ordinal-judged, register-day-judged}
 use Rattle.citation.proofs.Storing.{refusal-kept, refusal-eight, refusal-none}

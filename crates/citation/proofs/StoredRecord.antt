@@ -1,17 +1,17 @@
 -- A stored record is itself a citation: of kind 1, accepted, and naming the same day in the same system.
-use Prim.Native.Nat.{ℕ, _+_, _*_, _/_, _%_, _≤_, _<_}
-use mathlib.Core.Path.{_≡_, refl, subst, ap, sym, _∙_}
-use mathlib.Core.Logic.{_⊎_, inl, inr, ⊎-elim}
+use Prim.Native.Nat.{ℕ}
+use mathlib.Core.Path.{_≡_, refl, subst, sym}
+use mathlib.Core.Logic.{_⊎_, inr, ⊎-elim}
 use mathlib.Core.List.{List}
 use native.Mathlib.Omega.{arith}
 use Rattle.calendar.specs.declared.data.Constants.{Constants}
 use Rattle.calendar.specs.Consistent.{Consistent}
 use Rattle.calendar.specs.Inside.{Inside}
 use Rattle.calendar.specs.Systems.{constantsOf, yearsElapsed}
-use Rattle.calendar.specs.Year.{MonthNamed, HasLeap}
+use Rattle.calendar.specs.Year.{MonthNamed}
 use Rattle.calendar.proofs.EachSystem.{consistent}
 use Rattle.calendar.proofs.Laws.{number-inside, mark-inside}
-use Rattle.citation.specs.Record.{kindOf, yearField, recordOf}
+use Rattle.citation.specs.Record.{yearField, recordOf}
 use Rattle.citation.specs.Named.{elapsedIn, CitedMonth, Names, OnDate}
 use Rattle.citation.specs.Refused.{Accepted, WrongMonth, Placed}
 

@@ -1,7 +1,7 @@
 -- What the storing step answers and writes, for every input and output.
-use Prim.Native.Nat.{ℕ, _+_, _*_, _-_, _^_, _%_, _<_}
+use Prim.Native.Nat.{ℕ, _+_, _*_, _-_, _^_, _%_}
 use mathlib.Core.Bool.{Bool, cond, not, _&&_, _||_}
-use mathlib.Core.List.{List, [], _∷_, _++_}
+use mathlib.Core.List.{List, _++_}
 use lib.Dec.{ltb, leb, eqb}
 use lib.ListN.{length, replicate, drop}
 use Rattle.calendar.specs.Name.{nameOf}

@@ -1,14 +1,13 @@
 -- Records framed in a buffer.
 use Prim.Native.Nat.{ℕ, _+_, _*_, _-_, _≤_, _<_}
-use mathlib.Core.Path.{_≡_, refl, subst, subst₂, ap, ap₂, sym, _∙_}
+use mathlib.Core.Path.{_≡_, refl, subst, ap, ap₂, sym, _∙_}
 use mathlib.Core.Bool.{Bool, true, false, true≢false, cond, not, _&&_}
-use mathlib.Core.List.{List, [], _++_, append-assoc}
+use mathlib.Core.List.{List, _++_}
 use native.Mathlib.Omega.{arith}
 use lib.Dec.{leb}
 use lib.ListN.{length, getD, take, drop, length-append, length-drop, List·getD-append}
-use lib.Seq.{getD-drop, drop-drop, take-append-le, drop-append-le}
+use lib.Seq.{getD-drop, take-append-le, drop-append-le}
 use borrow.Author.Tests.{le-leb, lt-leb, leb-true}
-use Rattle.calendar.specs.Inside.{Inside}
 use Rattle.reckoning.specs.Refusal.{outside}
 use Rattle.reckoning.proofs.Refusals.{inside-of}
 use Rattle.citation.specs.Record.{lengthField}

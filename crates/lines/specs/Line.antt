@@ -5,7 +5,6 @@ use mathlib.Core.List.{List, [], _∷_, _++_}
 use lib.Dec.{eqb}
 use Rattle.calendar.specs.Name.{nameOf}
 use Rattle.citation.specs.Record.{systemOf, yearField, monthField, leapField, dayField}
-use Rattle.citation.specs.declared.judge.Judgement.{Judgement}
 use Rattle.citation.specs.Store.{judgeOf}
 use Rattle.lines.specs.Decimal.{decimal}
 

@@ -1,7 +1,7 @@
 // Records in a buffer, written as lines.
 ghost use mathlib.Core.Path.{_≡_};
 ghost use Prim.Native.Nat.{_≤_};
-ghost use lib.ListN.{length, drop};
+ghost use lib.ListN.{length};
 ghost use Rattle.lines.specs.Program.{misframed, nextOf, Converted};
 use crate::line::put_line;
 use crate::put::wide;

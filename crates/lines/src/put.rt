@@ -5,7 +5,7 @@ ghost use mathlib.Core.Bool.{cond};
 ghost use mathlib.Core.List.{[], _∷_};
 ghost use lib.Dec.{eqb, ltb};
 ghost use lib.ListN.{length};
-ghost use Rattle.lines.specs.Decimal.{twoDigits, below100, decimal};
+ghost use Rattle.lines.specs.Decimal.{twoDigits, decimal};
 ghost use Rattle.lines.specs.Line.{field};
 ghost use Rattle.lines.specs.Wrote.{Wrote};
 

@@ -1,11 +1,11 @@
 -- The answers for a solstice, a qi and a day sheet hold what the reckoning says, in each system and year in scope.
-use Prim.Native.Nat.{ℕ, _+_, _*_, _-_, _≤_, _<_}
+use Prim.Native.Nat.{ℕ, _+_, _*_, _-_, _≤_}
 use mathlib.Core.Path.{_≡_, refl, subst, sym, ap, _∙_}
 use native.Mathlib.Omega.{arith}
 use lib.ListN.{getD-replicate}
 use Rattle.calendar.specs.declared.data.Constants.{Constants}
 use Rattle.calendar.specs.Systems.{constantsOf, yearsElapsed, registerDay}
-use Rattle.calendar.specs.Name.{nameOf, nameOfCountDay}
+use Rattle.calendar.specs.Name.{nameOf}
 use Rattle.calendar.specs.Qi.{qi, dayOf, partsOf, unitsOf}
 use Rattle.calendar.specs.ClosedForms.{headOfYear}
 use Rattle.calendar.proofs.EachSystem.{consistent}
@@ -15,7 +15,6 @@ use Rattle.calendar.proofs.Names.{names-agree}
 use Rattle.reckoning.specs.Scope.{InScope}
 use Rattle.reckoning.specs.Refusal.{yearRefusal, qiRefusal}
 use Rattle.reckoning.specs.Asked.{askedOf}
-use Rattle.reckoning.specs.Filled.{filled}
 use Rattle.reckoning.specs.Room.{Reach}
 use Rattle.reckoning.specs.Requests.{solsticeIn, noSolstice, solsticeOf, qiIn, noQi, qiOf, nameAt, noNames, sheetIn, noSheet, sheetOf}
 use Rattle.reckoning.specs.Held.{IsSolstice, IsQi, IsSheet}

@@ -1,5 +1,5 @@
 -- Answers leave room in 32 bits for the days that follow a head.
-use Prim.Native.Nat.{ℕ, _+_, _^_, _≤_, _<_}
+use Prim.Native.Nat.{ℕ, _^_, _≤_, _<_}
 use mathlib.Core.Path.{_≡_, subst, ap, sym}
 use native.Mathlib.Omega.{arith}
 use Rattle.calendar.specs.Systems.{constantsOf, yearsElapsed}

@@ -3,12 +3,11 @@ use Prim.Native.Nat.{ℕ, _+_, _-_, _≤_, _<_}
 use mathlib.Core.Path.{_≡_, refl, subst, sym, ap, _∙_}
 use mathlib.Core.Logic.{_⊎_, inl, inr, ⊎-elim}
 use native.Mathlib.Omega.{arith}
-use lib.ListN.{getD}
 use Rattle.calendar.specs.declared.data.Constants.{Constants}
 use Rattle.calendar.specs.ExactlyOne.{ExactlyOne}
-use Rattle.calendar.specs.Systems.{constantsOf, yearsElapsed, registerDay}
+use Rattle.calendar.specs.Systems.{constantsOf, yearsElapsed}
 use Rattle.calendar.specs.Month.{monthHead, InMonth, Lacks, Bears, Marked}
-use Rattle.calendar.specs.Year.{Span, monthCount, InYear, DayOfYear}
+use Rattle.calendar.specs.Year.{InYear, DayOfYear}
 use Rattle.calendar.specs.Consistent.{Consistent}
 use Rattle.calendar.specs.ClosedForms.{firstMonth}
 use Rattle.calendar.proofs.EachSystem.{consistent}
@@ -24,7 +23,7 @@ use Rattle.reckoning.specs.Asked.{askedOf}
 use Rattle.reckoning.specs.Room.{Reach}
 use Rattle.reckoning.specs.Refusal.{yearRefusal}
 use Rattle.reckoning.specs.Requests.{asRegisterDay, headAt, numberAt, leapAt, noHeads, noMarks, monthsFrom, yearIn, noYear, yearOf}
-use Rattle.reckoning.specs.YearValue.{headIn, numberIn, leapIn, ListsMonths, Tiled}
+use Rattle.reckoning.specs.YearValue.{headIn, ListsMonths, Tiled}
 use Rattle.reckoning.proofs.Fill.{filled-below, filled-past, filled-length, replicate-reads}
 use Rattle.reckoning.proofs.Refusals.{in-scope}
 use Rattle.reckoning.proofs.Scope.{reach}

@@ -4,15 +4,12 @@ use mathlib.Core.Path.{_≡_, refl, subst, sym, ap, _∙_}
 use mathlib.Core.Bool.{Bool, true, false, true≢false, _||_}
 use lib.Dec.{ltb, leb}
 use borrow.Author.Tests.{ltb-false, leb-false, le-ltb, lt-leb}
-use mathlib.Core.Logic.{_⊎_, inl, inr}
+use mathlib.Core.Logic.{inl, inr}
 use native.Mathlib.Omega.{arith}
-use Rattle.calendar.specs.declared.data.Constants.{Constants}
 use Rattle.calendar.specs.Inside.{Inside}
 use Rattle.calendar.specs.Systems.{constantsOf, yearsElapsed}
 use Rattle.calendar.specs.Month.{monthHead}
-use Rattle.calendar.specs.Year.{Span, yearHead, nextHead, MonthNamed, HasLeap}
-use Rattle.calendar.specs.Consistent.{Consistent}
-use Rattle.calendar.specs.Calendar.{Calendar}
+use Rattle.calendar.specs.Year.{Span, yearHead, nextHead, MonthNamed}
 use Rattle.calendar.specs.ClosedForms.{monthOfDay, yearOfMonth, headOfYear, monthNumber, leapMark, monthCited, leapFollows}
 use Rattle.calendar.proofs.EachSystem.{consistent}
 use Rattle.calendar.proofs.Rising.{by-order}
@@ -21,16 +18,14 @@ use Rattle.calendar.proofs.Spans.{span, span-first, span-next, in-year, within}
 use Rattle.calendar.proofs.Months.{in-its-year, years-rise, year-from, year-before}
 use Rattle.calendar.proofs.Laws.{named, leap-follows, ordinary-cited, leap-cited}
 use Rattle.reckoning.specs.Scope.{InScope}
-use Rattle.reckoning.specs.Room.{Registered, Reach}
-use Rattle.reckoning.specs.Refusal.{outside, yearRefusal, dayWrong}
-use Rattle.reckoning.specs.Requests.{daysIn, noDays, daysOf, monthAt, noMonth, monthIn, monthOf, noDate, dateAt, dateIn, dateOf}
+use Rattle.reckoning.specs.Refusal.{yearRefusal, dayWrong}
+use Rattle.reckoning.specs.Requests.{daysIn, noDays, daysOf, monthAt, noMonth, monthIn, monthOf, dateAt, dateIn, dateOf}
 use Rattle.reckoning.specs.Outcomes as O
 use Rattle.reckoning.proofs.Refusals.{by-inside, by-scope}
 use Rattle.reckoning.proofs.Scope.{room, reach}
 use Rattle.reckoning.proofs.Answers.{refused-year, answered-year}
 use Rattle.reckoning.proofs.InReach.{first-head, next-head}
-use Rattle.reckoning.proofs.Cited.{number-wrong, mark-wrong, ordinary-month, leap-month, leap-lacks, ordinary-registered}
-use Rattle.reckoning.proofs.Dated.{date-answered}
+use Rattle.reckoning.proofs.Cited.{number-wrong, mark-wrong, ordinary-month, leap-month, leap-lacks}
 
 pub days-outcome : (system year : ℕ) → O.DaysOutcome system year (daysOf system year)
 unfolding daysOf

@@ -1,8 +1,7 @@
 -- Years in scope keep the bounds, checked for each system by computing.
-use Prim.Native.Nat.{ℕ, _+_, _≤_}
+use Prim.Native.Nat.{ℕ}
 use native.Mathlib.Omega.{arith}
-use Rattle.calendar.specs.declared.data.Constants.{Constants}
-use Rattle.calendar.specs.Systems.{guantian, jiyuan, constantsOf, yearsElapsed}
+use Rattle.calendar.specs.Systems.{constantsOf, yearsElapsed}
 use Rattle.calendar.proofs.EachSystem.{each-system}
 use Rattle.reckoning.specs.Room.{Room, Reach}
 use Rattle.calendar.specs.Inside.{Inside}

@@ -1,6 +1,4 @@
-use mathlib.Core.Path.{subst, sym, ap, _∙_}
-use Rattle.calendar.specs.Systems.{yearsElapsed}
-use Rattle.reckoning.specs.Room.{Reach}
+use mathlib.Core.Path.{sym, _∙_}
 use Rattle.reckoning.specs.Requests.{daysIn, noDays, daysOf}
 use Rattle.reckoning.proofs.Answers.{refused-here, answered-here, picks-guantian, picks-jiyuan, reach-here}
 use borrow.Author.Needs.{needs}

@@ -1,8 +1,7 @@
-use mathlib.Core.Path.{sym, ap, _∙_}
+use mathlib.Core.Path.{sym, _∙_}
 use native.Mathlib.Omega.{arith}
 use Rattle.reckoning.proofs.Refusals.{inside-of}
 use Rattle.reckoning.proofs.Fits.{month-fits}
-use Rattle.citation.specs.Store.{judgeInMonth, judgeDay}
 use Rattle.citation.proofs.Judgements.{month-refused, day-wrong, day-right}
 use borrow.Author.Needs.{needs}
 use Rattle.citation.proofs.judge.day.Statement.{statement}

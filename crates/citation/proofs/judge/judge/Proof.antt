@@ -1,5 +1,4 @@
-use mathlib.Core.Path.{sym, ap, subst, _∙_}
-use native.Mathlib.Omega.{arith}
+use mathlib.Core.Path.{sym, ap, _∙_}
 use Rattle.reckoning.specs.Refusal.{outside}
 use Rattle.citation.specs.Record.{kindLength}
 use Rattle.citation.proofs.Judgements.{too-short, wrong-kind, wrong-field, wrong-size, right-size, whole}

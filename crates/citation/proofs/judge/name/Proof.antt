@@ -1,6 +1,6 @@
 use Prim.Native.Nat.{_+_, _-_, _%_}
 use Rattle.citation.specs.Store.{accept}
-use mathlib.Core.Path.{sym, ap, subst, _∙_}
+use mathlib.Core.Path.{ap, _∙_}
 use native.Mathlib.Omega.{arith}
 use Rattle.reckoning.proofs.Fits.{month-fits}
 use Rattle.citation.proofs.Judgements.{name-month-refused, no-name, name-past, name-right}

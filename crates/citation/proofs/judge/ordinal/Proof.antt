@@ -1,8 +1,7 @@
-use mathlib.Core.Path.{sym, ap, _∙_}
+use mathlib.Core.Path.{sym, _∙_}
 use native.Mathlib.Omega.{arith}
 use Rattle.reckoning.proofs.Refusals.{inside-of}
 use Rattle.reckoning.proofs.Fits.{days-fit}
-use Rattle.citation.specs.Store.{judgeInYear, judgeOrdinal}
 use Rattle.citation.proofs.Judgements.{year-refused, ordinal-wrong, ordinal-right}
 use borrow.Author.Needs.{needs}
 use Rattle.citation.proofs.judge.ordinal.Statement.{statement}

@@ -1,5 +1,4 @@
-use mathlib.Core.Path.{ap, _∙_}
-use Rattle.citation.specs.Store.{judgeDate, judgeRegisterDay}
+use mathlib.Core.Path.{_∙_}
 use Rattle.citation.proofs.Judgements.{date-refused, date-accepted}
 use borrow.Author.Needs.{needs}
 use Rattle.citation.proofs.judge.register_day.Statement.{statement}

@@ -1,4 +1,4 @@
-use mathlib.Core.Path.{_≡_, _∙_, sym}
+use mathlib.Core.Path.{_∙_}
 use native.Mathlib.Omega.{arith}
 use Rattle.citation.proofs.Storing.{refusal-kept, refusal-eight, refusal-none, answer-refused, output-refused, answer-accepted, output-accepted}
 use borrow.Author.Needs.{needs}

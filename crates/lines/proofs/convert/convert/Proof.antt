@@ -1,11 +1,9 @@
 use Prim.Native.Nat.{_+_, _-_, _≤_}
-use mathlib.Core.Path.{_≡_, refl, subst, ap, sym, _∙_}
+use mathlib.Core.Path.{_≡_, refl, ap, sym, _∙_}
 use native.Mathlib.Omega.{arith}
-use lib.ListN.{length, take, drop, length-drop}
-use Rattle.lines.specs.Line.{lineOf}
-use Rattle.lines.specs.Wrote.{Wrote}
+use lib.ListN.{length, drop}
 use Rattle.lines.specs.Program.{nextOf}
-use Rattle.lines.proofs.Framing.{Next, next-is}
+use Rattle.lines.proofs.Framing.{next-is}
 use Rattle.lines.proofs.Turn.{SoFar, one-more, rest-kept, read-inside}
 use Rattle.lines.proofs.convert.convert.Statement.{statement}
 use Rattle.lines.proofs.convert.convert.Tie as tie

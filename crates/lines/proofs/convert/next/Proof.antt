@@ -1,9 +1,7 @@
-use mathlib.Core.Path.{_≡_, sym, ap, ap₂, _∙_}
+use mathlib.Core.Path.{sym, ap, ap₂, _∙_}
 use Prim.Native.Nat.{_+_, _*_}
 use native.Mathlib.Omega.{arith}
 use Rattle.reckoning.specs.Refusal.{outside}
-use Rattle.citation.specs.Record.{lengthField}
-use lib.ListN.{drop}
 use Rattle.lines.proofs.Framing.{field-at, no-room, no-field, bad-field, too-few, whole}
 use borrow.Author.Needs.{needs}
 use Rattle.lines.proofs.convert.next.Statement.{statement}

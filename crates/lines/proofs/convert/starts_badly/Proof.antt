@@ -1,4 +1,4 @@
-use mathlib.Core.Path.{_≡_, sym, ap, ap₂, _∙_}
+use mathlib.Core.Path.{ap, ap₂, _∙_}
 use Prim.Native.Nat.{_+_, _*_}
 use borrow.Author.Tests.{lt-leb, le-leb}
 use Rattle.reckoning.specs.Refusal.{outside}

@@ -1,4 +1,3 @@
-use native.Mathlib.Omega.{arith}
 use borrow.Author.Tests.{eq-eqb, ne-eqb}
 use Rattle.lines.proofs.line.letter.Statement.{statement}
 use Rattle.lines.proofs.line.letter.Tie as tie

@@ -1,5 +1,4 @@
 use mathlib.Core.Path.{subst}
-use native.Mathlib.Omega.{arith}
 use Rattle.lines.specs.Wrote.{Wrote}
 use Rattle.lines.proofs.Decimals.{tens-or-not}
 use borrow.Author.Needs.{needs}

@@ -1,5 +1,5 @@
 use Prim.Native.Nat.{_+_, _-_, _/_, _%_}
-use mathlib.Core.Path.{_≡_, ap, ap₂, _∙_}
+use mathlib.Core.Path.{ap, _∙_}
 use native.Mathlib.Omega.{arith}
 use Rattle.calendar.specs.ClosedForms.{monthOfQi, qiOfMonth}
 use Rattle.calendar.specs.Month.{monthHead, numberOf}

@@ -1,10 +1,9 @@
 use Prim.Native.Nat.{_+_}
 use borrow.Author.Tests.{lt-ltb, le-ltb}
 use mathlib.Core.Path.{ap₂}
-use Rattle.calendar.specs.ClosedForms.{monthOfQi, qiOfNumber}
 use Rattle.reckoning.specs.Requests.{monthAt}
 use lib.Dec.{ltb}
-use mathlib.Core.Path.{_≡_, subst, sym, ap, _∙_}
+use mathlib.Core.Path.{sym, ap, _∙_}
 use native.Mathlib.Omega.{arith}
 use Rattle.reckoning.proofs.Cited.{number-wrong, mark-wrong, ordinary-month, leap-month, leap-lacks, ordinary-registered, leap-registered}
 use borrow.Author.Needs.{needs}

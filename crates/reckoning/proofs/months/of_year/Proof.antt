@@ -1,4 +1,4 @@
-use mathlib.Core.Path.{_≡_, ap, ap₂, _∙_, subst₂, sym}
+use mathlib.Core.Path.{ap₂, _∙_, subst₂, sym}
 use Prim.Native.Nat.{_-_}
 use native.Mathlib.Omega.{arith}
 use Rattle.reckoning.specs.Room.{Listed}

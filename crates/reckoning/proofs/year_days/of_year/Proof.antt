@@ -1,4 +1,4 @@
-use mathlib.Core.Path.{_≡_, ap, ap₂, subst₂, sym}
+use mathlib.Core.Path.{ap, ap₂, subst₂, sym}
 use Prim.Native.Nat.{_-_, _≤_}
 use native.Mathlib.Omega.{arith}
 use Rattle.reckoning.proofs.InReach.{first-small, first-head, next-head, register-rises, register-length-most}
