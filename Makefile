@@ -33,7 +33,7 @@ test: all test-tools
 	@for test in $(tests); do $$test || { echo "$$test failed" >&2; exit 1; }; done
 	@rt ci
 
-# Nanoseconds a record, beside C written by hand.
+# The storing step and the program, beside C written by hand.
 bench: all $(bench_tools)
 	@bench/run.sh
 

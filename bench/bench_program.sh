@@ -60,6 +60,6 @@ for ((round = 0; round < rounds; round++)); do
 done
 
 awk -v count="$count" -v chiselbrow="$best_chiselbrow" -v c="$best_c" 'BEGIN {
-    printf "program: chiselbrow %.1f ns, C %.1f ns, ratio %.2f\n",
-        chiselbrow * 1e3 / count, c * 1e3 / count, chiselbrow / c
+    printf "program: chiselbrow %.1f million records a second, C %.1f million, ratio %.2f\n",
+        count / chiselbrow, count / c, chiselbrow / c
 }'

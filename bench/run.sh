@@ -1,7 +1,7 @@
 #!/usr/bin/env bash
 # Runs both measurements on what make has built: nanoseconds a record for the
-# storing step and for the program, and at the end the ratios to C by
-# themselves.
+# storing step, records a second for the program, and at the end the ratios of
+# their times to those of C by themselves.
 
 set -euo pipefail
 cd "$(dirname "$0")/.."
