@@ -34,10 +34,10 @@ for year in 0 3001 4294968388 18446744073709552708 99999999999999999999; do
 done
 # Leading noughts change nothing.
 compare 002 0001108
+compare 1 00000000000000000000000000001094 1096
+compare 2 1094 00000000000000000000000000001096
 
-# Ranges that leave the years on either side, or that are empty. Not compared, since the almanac counts them wrongly:
-#     2 18446744073709551614 18446744073709551617
-#     1 99999999999999999998 100000000000000000001
+# Ranges that leave the years on either side, that pass a size of machine word, or that are empty.
 compare 1 0 2
 compare 2 2999 3002
 compare 1 3000 3001
@@ -46,9 +46,25 @@ compare 1 3001 3001
 compare 3 1 4
 compare 1 4294967294 4294967297
 compare 2 18446744073709551613 18446744073709551614
+compare 2 18446744073709551614 18446744073709551617
+compare 1 99999999999999999998 100000000000000000001
+compare 3 0099999999999999999998 100000000000000000001
 compare 1 1094 1092
 compare 2 3001 3000
+compare 1 1000 999
 compare 1 18446744073709551617 2
+compare 2 2 0
+compare 1 18446744073709551617 18446744073709551616
+compare 1 100000000000000000001 99999999999999999998
+compare 2 18446744073709551617 00018446744073709551614
+
+# Numbers of many thousand digits.
+digits=$(head -c 60000 /dev/zero | tr '\0' 7)
+compare 1 "$digits" "$digits"
+compare 2 "${digits}7" "${digits}9"
+compare 1 "${digits}098" "${digits}101"
+compare 2 "${digits}0" "$digits"
+compare 1 "8$digits" "${digits}9"
 
 no_request
 no_request page 1 1092

@@ -1,7 +1,7 @@
 -- Decimal arguments, digit by digit.
 use Prim.Native.Nat.{ℕ, _+_, _*_, _-_, _≤_, _<_, min}
 use mathlib.Core.Path.{_≡_, refl, sym, ap, ap₂, _∙_}
-use mathlib.Core.Bool.{true, false, true≢false, cond, _&&_}
+use mathlib.Core.Bool.{Bool, true, false, true≢false, cond, _&&_}
 use mathlib.Core.List.{List, [], _∷_}
 use native.Mathlib.Numerals.{add-one}
 use native.Mathlib.Omega.{arith}
@@ -10,7 +10,7 @@ use lib.Seq.{drop-cons}
 use borrow.Author.Tests.{le-leb, lt-leb}
 use Rattle.calendar.proofs.Rising.{by-order}
 use Rattle.almanac.specs.declared.arguments.Argument.{Argument}
-use Rattle.almanac.specs.Argument.{most, isDigit, allDigits, withDigits, argumentOf}
+use Rattle.almanac.specs.Argument.{most, isDigit, allDigits, withDigits, numberOf, isNumber, argumentOf}
 
 -- More digits make no number smaller.
 grows : (n : ℕ) (text : List ℕ) → n ≤ withDigits n text
@@ -36,7 +36,7 @@ reading-starts text = record { within = omega arith; digits = refl; value = refl
 
 some-text : (text : List ℕ) → 0 < length text
     → argumentOf text ≡ cond (allDigits text) (Argument.Number (min most (withDigits 0 text))) Argument.Other
-unfolding argumentOf
+unfolding argumentOf isNumber
 some-text [] h = absurd (omega arith)
 some-text (byte ∷ text) h = refl
 
@@ -78,7 +78,7 @@ module _ (text : List ℕ) (n i : ℕ) (r : Reading text n i) where
       sym (some-text text some ∙ ap₂ (λ d m. cond d (Argument.Number m) Argument.Other) all value)
 
 pub no-text : (text : List ℕ) → length text ≡ 0 → Argument.Other ≡ argumentOf text
-unfolding argumentOf
+unfolding argumentOf isNumber
 no-text [] h = refl
 no-text (byte ∷ text) h = absurd (omega arith)
 
@@ -91,3 +91,36 @@ a-digit byte e =
     by-order 57 byte
     (λ m. absurd (true≢false (sym e ∙ simp (le-leb 48 byte l, lt-leb byte 57 m))))
     (λ m. (l, m)))
+
+-- What is read tells whether a text is a number, and which.
+has-number : Argument → Bool
+has-number (Argument.Number n) = true
+has-number Argument.Other = false
+
+the-number : Argument → ℕ
+the-number (Argument.Number n) = n
+the-number Argument.Other = 0
+
+by-kind : (is-number : Bool) (n : ℕ) → has-number (cond is-number (Argument.Number n) Argument.Other) ≡ is-number
+unfolding has-number
+by-kind true n = refl
+by-kind false n = refl
+
+pub no-number : (text : List ℕ) → argumentOf text ≡ Argument.Other → isNumber text ≡ false
+unfolding argumentOf has-number
+no-number text e = sym (by-kind (isNumber text) _) ∙ ap has-number e
+
+module _ (text : List ℕ) (n : ℕ) (e : argumentOf text ≡ Argument.Number n) where
+  pub a-number : isNumber text ≡ true
+  unfolding argumentOf has-number
+  a-number = sym (by-kind (isNumber text) _) ∙ ap has-number e
+
+  pub its-value : n ≡ min most (numberOf text)
+  unfolding argumentOf the-number
+  its-value =
+      ap the-number (sym e) ∙ ap (λ is-number. the-number (cond is-number (Argument.Number (min most (numberOf text))) Argument.Other)) a-number
+
+pub number-digits : (text : List ℕ) → isNumber text ≡ true → allDigits text ≡ true
+unfolding isNumber
+number-digits [] e = absurd (true≢false (sym e))
+number-digits (byte ∷ text) e = e

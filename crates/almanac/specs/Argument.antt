@@ -1,13 +1,13 @@
 -- A decimal argument.
 use Prim.Native.Nat.{ℕ, _+_, _*_, _-_, min}
-use mathlib.Core.Bool.{Bool, true, cond, _&&_}
+use mathlib.Core.Bool.{Bool, true, false, cond, _&&_}
 use mathlib.Core.List.{List, [], _∷_}
 use lib.Dec.{leb}
 use Rattle.almanac.specs.declared.arguments.Argument.{Argument}
 
 -- The largest number told; larger ones are taken as it.
 abbrev pub most : ℕ
-most = 18_446_744_073_709_551_615
+most = 4_294_967_295
 
 -- '0' is 48 and '9' is 57.
 abbrev pub isDigit : ℕ → Bool
@@ -22,8 +22,13 @@ unfoldable pub withDigits : ℕ → List ℕ → ℕ
 withDigits n [] = n
 withDigits n (byte ∷ text) = withDigits (n * 10 + (byte - 48)) text
 
+abbrev pub numberOf : List ℕ → ℕ
+numberOf text = withDigits 0 text
+
 -- A number is one digit or more and nothing else.
+unfoldable pub isNumber : List ℕ → Bool
+isNumber [] = false
+isNumber (byte ∷ text) = allDigits (byte ∷ text)
+
 unfoldable pub argumentOf : List ℕ → Argument
-argumentOf [] = Argument.Other
-argumentOf (byte ∷ text) =
-    cond (allDigits (byte ∷ text)) (Argument.Number (min most (withDigits 0 (byte ∷ text)))) Argument.Other
+argumentOf text = cond (isNumber text) (Argument.Number (min most (numberOf text))) Argument.Other

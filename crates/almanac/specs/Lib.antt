@@ -1,3 +1,5 @@
 -- What the program's functions promise.
 -- Decimal arguments.
 pub mod Argument
+-- How many years a range has.
+pub mod Years

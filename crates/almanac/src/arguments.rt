@@ -2,10 +2,12 @@
 ghost use mathlib.Core.Path.{_≡_};
 ghost use Prim.Native.Nat.{_+_, _*_, _-_, _≤_, min};
 ghost use Rattle.almanac.specs.Argument.{most, isDigit, argumentOf};
+use crate::years;
+use crate::years::Years;
 
 // An argument that is to be a number.
 pub(crate) enum Argument {
-    Number(u64),
+    Number(u32),
     Other,
 }
 
@@ -27,33 +29,27 @@ fn is_digit(byte: u8) -> bool
     true
 }
 
-fn wide(x: u8) -> u64
-    ensures { λ r. ⌜ r ≡ x ⌝ }
-{
-    x as u64
-}
-
 // The number n with one digit more after it, or the largest where that is larger.
-fn with_digit(n: u64, byte: u8) -> u64
+fn with_digit(n: u32, byte: u8) -> u32
     requires { ⌜ (48 ≤ byte) × (byte ≤ 57) ⌝ }
     ensures { λ r. ⌜ r ≡ min most (n * 10 + (byte - 48)) ⌝ }
 {
-    let digit = wide(byte) - 48;
-    if (u64::MAX - digit) / 10 < n {
-        return u64::MAX;
+    let digit = (byte - 48) as u32;
+    if (u32::MAX - digit) / 10 < n {
+        return u32::MAX;
     }
     n * 10 + digit
 }
 
 // The number that a text gives by its digits, read left to right. One that is too large becomes the largest, which is
 // refused as it would be.
-fn read(text: &[u8]) -> Argument
+pub(crate) fn read(text: &[u8]) -> Argument
     ensures { λ r. ⌜ r ≡ argumentOf (now (text .entry)) ⌝ }
 {
     if text.len() == 0 {
         return Argument::Other;
     }
-    let mut n: u64 = 0;
+    let mut n: u32 = 0;
     let mut i = 0;
     while i < text.len() {
         let byte = text[i];
@@ -72,6 +68,15 @@ pub(crate) fn number(i: usize) -> Argument {
     let mut text = [0u8; 131072];
     let n = os::arg(i, &mut text);
     read(&text[..n])
+}
+
+// The years from argument i to argument j.
+pub(crate) fn years(i: usize, j: usize) -> Years {
+    let mut first = [0u8; 131072];
+    let mut last = [0u8; 131072];
+    let n = os::arg(i, &mut first);
+    let m = os::arg(j, &mut last);
+    years::read(&first[..n], &last[..m])
 }
 
 // The verb, by the first argument.

@@ -3,10 +3,12 @@ mod arguments;
 mod page;
 mod range;
 mod text;
+mod years;
 
 use arguments::Argument;
 use arguments::Verb;
 use libc::STDERR_FILENO;
+use years::Years;
 
 // Writes the pages of the years from FIRST to the last argument, which is FIRST again where LAST is left out. Whether
 // the arguments were in order: all are read before anything is written.
@@ -21,13 +23,10 @@ fn year_pages() -> bool {
     let Argument::Number(system) = arguments::number(2) else {
         return false;
     };
-    let Argument::Number(first) = arguments::number(3) else {
+    let Years::From(first, years) = arguments::years(3, count - 1) else {
         return false;
     };
-    let Argument::Number(last) = arguments::number(count - 1) else {
-        return false;
-    };
-    range::pages(system, first, last);
+    range::pages(system, first, years);
     true
 }
 

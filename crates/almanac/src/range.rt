@@ -10,10 +10,9 @@ struct Place {
     is_open: bool,
 }
 
-// A number as the reckoning takes it. One that does not fit 32 bits becomes the largest that does, which is refused as
-// it would be.
-fn narrow(n: u64) -> u32 {
-    if n < 4294967295 { n as u32 } else { 4294967295 }
+// The year after. Past the largest number it stays, which is refused as the years past it would be.
+fn next_year(year: u32) -> u32 {
+    if year < 4294967295 { year + 1 } else { year }
 }
 
 // A place with room for a page, 8192 bytes: the one given, or the buffer's start once all before it was written out.
@@ -34,31 +33,28 @@ fn next_place(out: &[u8], at: usize) -> Place
     }
 }
 
-// The years before the last in a loop, and then the last, so that the count never passes the largest number. A write
-// that fails ends it.
-fn write_pages(out: &mut [u8], system: u32, first: u64, last: u64)
+// A write that fails ends it.
+fn write_pages(out: &mut [u8], system: u32, first: u32, count: u64)
     requires { ⌜ 8192 ≤ length (now out) ⌝ }
 {
     let mut at = 0;
     let mut year = first;
-    while year < last {
-        at = page(out, at, system, narrow(year));
+    let mut left = count;
+    while 0 < left {
         let place = next_place(out, at);
         if !place.is_open {
             return;
         }
-        at = place.at;
-        year += 1;
+        let start = place.at;
+        at = page(out, start, system, year);
+        year = next_year(year);
+        left -= 1;
     }
-    at = page(out, at, system, narrow(last));
     io::write_all(STDOUT_FILENO, &out[..at]);
 }
 
-// The pages of the years from `first` to `last`; none where `last` is before `first`.
-pub(crate) fn pages(system: u64, first: u64, last: u64) {
-    if last < first {
-        return;
-    }
+// The pages of so many years from the first on.
+pub(crate) fn pages(system: u32, first: u32, count: u64) {
     let mut buffer = io::large_buffer();
-    write_pages(&mut buffer, narrow(system), first, last);
+    write_pages(&mut buffer, system, first, count);
 }

@@ -3,11 +3,11 @@ use borrow.Author.Needs.{needs}
 use Rattle.almanac.proofs.arguments.with_digit.Statement.{statement}
 use Rattle.almanac.proofs.arguments.with_digit.Tie as tie
 
-wide-requires : tie.Need-wide-requires
-wide-requires c κs = search needs
-
 sub-digit : tie.Need-sub-digit
 sub-digit c = search needs
+
+cast-digit : tie.Need-cast-digit
+cast-digit c = search needs
 
 sub-if1 : tie.Need-sub-if1
 sub-if1 c = search needs
@@ -25,4 +25,4 @@ returns-2 : tie.Need-returns-2
 returns-2 c = omega arith
 
 pub with-digit-spec : {M : Type 1} → statement M
-with-digit-spec = tie.close (tie.spec wide-requires sub-digit sub-if1 returns mul-result add-result returns-2)
+with-digit-spec = tie.close (tie.spec sub-digit cast-digit sub-if1 returns mul-result add-result returns-2)

@@ -1,6 +1,6 @@
 use mathlib.Core.Path.{_≡_, sym}
 use lib.Seq.{length-take-le}
-use Prim.Native.Nat.{_+_, _-_, _≤_}
+use Prim.Native.Nat.{_≤_}
 use lib.ListN.{length}
 use native.Mathlib.Omega.{arith}
 use borrow.Author.Needs.{needs}
@@ -8,20 +8,13 @@ use Rattle.almanac.proofs.range.write_pages.Statement.{statement}
 use Rattle.almanac.proofs.range.write_pages.Tie as tie
 
 abbrev Inv-loop : tie.InvT-loop
-Inv-loop out₀ system first last at₀ year₀ out at year =
-    (length out ≡ length out₀) × (at + 8192 ≤ length out)
+Inv-loop out₀ system first count at₀ year₀ left₀ out at year left = (length out ≡ length out₀) × (at ≤ length out)
 
 abbrev μ-loop : tie.MeasureT-loop
-μ-loop out₀ system first last at₀ year₀ out at year = last - year
+μ-loop out₀ system first count at₀ year₀ left₀ out at year left = left
 
 loop-holds : tie.Need-loop-holds Inv-loop μ-loop
 loop-holds c = search needs
-
-narrow-requires : tie.Need-narrow-requires Inv-loop μ-loop
-narrow-requires c κs = search needs
-
-page-requires : tie.Need-page-requires Inv-loop μ-loop
-page-requires c κs = search needs
 
 next-place-requires : tie.Need-next-place-requires Inv-loop μ-loop
 next-place-requires c κs = search needs
@@ -32,20 +25,20 @@ same-length c = search needs
 returns : tie.Need-returns Inv-loop μ-loop
 returns c = search needs
 
-add-year : tie.Need-add-year Inv-loop μ-loop
-add-year c = search needs
+page-requires : tie.Need-page-requires Inv-loop μ-loop
+page-requires c κs = search needs
+
+next-year-requires : tie.Need-next-year-requires Inv-loop μ-loop
+next-year-requires c κs = search needs
+
+sub-left : tie.Need-sub-left Inv-loop μ-loop
+sub-left c = search needs
 
 loop-less : tie.Need-loop-less Inv-loop μ-loop
 loop-less c = search needs
 
 loop-again : tie.Need-loop-again Inv-loop μ-loop
 loop-again c = search needs
-
-narrow-requires-2 : tie.Need-narrow-requires-2 Inv-loop μ-loop
-narrow-requires-2 c κs = search needs
-
-page-requires-2 : tie.Need-page-requires-2 Inv-loop μ-loop
-page-requires-2 c κs = search needs
 
 slice-reshare-prefix-write-all : tie.Need-slice-reshare-prefix-write-all Inv-loop μ-loop
 slice-reshare-prefix-write-all c = search needs
@@ -69,16 +62,14 @@ write-pages-spec =
     Inv-loop
     μ-loop
     loop-holds
-    narrow-requires
-    page-requires
     next-place-requires
     same-length
     returns
-    add-year
+    page-requires
+    next-year-requires
+    sub-left
     loop-less
     loop-again
-    narrow-requires-2
-    page-requires-2
     slice-reshare-prefix-write-all
     slice-aggregate-write-all
     write-all-requires

@@ -1,0 +1,58 @@
+use mathlib.Core.Path.{sym, _∙_}
+use borrow.Author.Needs.{needs}
+use Rattle.almanac.proofs.Ranges.{no-first, no-last, range-digits, a-range}
+use Rattle.almanac.proofs.years.read.Statement.{statement}
+use Rattle.almanac.proofs.years.read.Tie as tie
+
+read-requires : tie.Need-read-requires
+read-requires c κs = search needs
+
+enum-known-year : tie.Need-enum-known-year
+enum-known-year c = search needs
+
+enum-told : tie.Need-enum-told
+enum-told c = search needs
+
+returns : tie.Need-returns
+returns c = no-first _ _ (sym (c .before .before .read .ensures) ∙ c .enum-told .given .1)
+
+read-requires-2 : tie.Need-read-requires-2
+read-requires-2 c κs = search needs
+
+enum-told-2 : tie.Need-enum-told-2
+enum-told-2 c = search needs
+
+enum-told-3 : tie.Need-enum-told-3
+enum-told-3 c = search needs
+
+returns-2 : tie.Need-returns-2
+returns-2 c = no-last _ _ (sym (c .before .before .read2 .ensures) ∙ c .enum-told3 .given .1)
+
+count-requires : tie.Need-count-requires
+count-requires c κs =
+    range-digits _ _ _ _
+    (sym (c .before .before .before .before .before .before .read .ensures) ∙ c .before .before .before .before .year .given .1)
+    (sym (c .before .before .read2 .ensures) ∙ c .enum-told2 .given .1)
+
+returns-3 : tie.Need-returns-3
+returns-3 c =
+    a-range _ _ _ _
+    (sym (c .before .before .before .before .before .before .before .read .ensures) ∙ c .before .before .before .before .before .year .given .1)
+    (sym (c .before .before .before .read2 .ensures) ∙ c .before .enum-told2 .given .1)
+    (c .count .result)
+    (c .count .ensures)
+
+pub read-spec : {M : Type 1} → statement M
+read-spec =
+    tie.close
+    (tie.spec
+    read-requires
+    enum-known-year
+    enum-told
+    returns
+    read-requires-2
+    enum-told-2
+    enum-told-3
+    returns-2
+    count-requires
+    returns-3)
