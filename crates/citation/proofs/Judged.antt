@@ -19,14 +19,14 @@ use Rattle.reckoning.specs.declared.data.Days.{Days}
 use Rattle.reckoning.specs.declared.data.Date.{Date}
 use Rattle.reckoning.specs.Scope.{InScope}
 use Rattle.reckoning.specs.Requests.{daysOf, monthOf, dateOf}
-use Rattle.reckoning.specs.Outcomes.{MonthOutcome, DaysOutcome, DateOutcome, DayInScope}
+use Rattle.reckoning.specs.Outcomes.{MonthFound, MonthOutcome, DaysOutcome, DateFound, DateOutcome, DayInScope}
 use Rattle.reckoning.proofs.Refusals.{by-inside}
 use Rattle.reckoning.proofs.Outcomes.{days-outcome, month-outcome, date-outcome, year-day-in-scope}
 use Rattle.citation.specs.declared.judge.Judgement.{Judgement}
 use Rattle.citation.specs.Record.{kindOf, systemOf, yearField, monthField, leapField, dayField, nameField, ordinalField, registerDayField, recordOf}
 use Rattle.citation.specs.Named.{constantsIn, elapsedIn, CitedMonth, Names, OnDate}
 use Rattle.reckoning.specs.Rows.{Row, FirstOf}
-use Rattle.citation.specs.Refused.{contentRows, WrongMonth, Placed, NotPlaced}
+use Rattle.citation.specs.Refused.{contentRows, WrongSystem, WrongYear, WrongMonth, Placed, NotPlaced}
 use Rattle.citation.specs.Store.{refuse, accept, daysToName, judgeRegisterDay, judgeOrdinal, judgeDay, judgeName}
 use Rattle.citation.proofs.OneDay.{month-once}
 use Rattle.citation.proofs.Judgements.{date-refused, date-accepted, year-refused, ordinal-wrong, ordinal-right, month-refused, day-wrong, day-right, name-month-refused, no-name, name-past, name-right}
@@ -55,14 +55,7 @@ module _ (s : List ℕ) where
   month-judged : (j : Judgement) (m : Month) → kindOf s ≤ 2
       → MonthOutcome (systemOf s) (yearField s) (monthField s) (leapField s) m
       → ((m .refusal ≡ 0 → ⊥) → refuse (m .refusal) ≡ j)
-      → (InScope (systemOf s) (yearField s)
-      → (WrongMonth s → ⊥)
-      → (k : ℕ)
-      → CitedMonth s k
-      → m .refusal ≡ 0
-      → m .head .0 + c .anchor ≡ monthHead c k
-      → m .length ≡ monthLength c k
-      → Judged (contentRows s) s j)
+      → (MonthFound (systemOf s) (yearField s) (monthField s) (leapField s) m → (WrongMonth s → ⊥) → Judged (contentRows s) s j)
       → Judged (contentRows s) s j
   month-judged j m kind (MonthOutcome.system-refused w e) r f =
       Judged.refused 4 (omega arith) (sym (r (λ z. omega (arith, ap (λ x. x .refusal) e))) ∙ ap (λ x. refuse (x .refusal)) e) (inl (refl, w))
@@ -72,19 +65,25 @@ module _ (s : List ℕ) where
   month-judged j m kind (MonthOutcome.month-refused i w e) r f =
       Judged.refused 6 (omega arith) (sym (r (λ z. omega (arith, ap (λ x. x .refusal) e))) ∙ ap (λ x. refuse (x .refusal)) e)
       (inr (λ v. v (i .system-inside), inr (λ v. v .1 (i .year-inside), inl (refl, (kind, w)))))
-  month-judged j m kind (MonthOutcome.found i a b k n z h l) r f =
-      f i
+  month-judged j m kind (MonthOutcome.found f) r g =
+      g f
       (λ w.
       ⊎-elim
-      (λ v. v a)
-      (λ v. ⊎-elim (λ u. u b) (λ u. u .1 (record { month = k; is-leap = subst (λ x. MonthNamed c (elapsedIn s) (monthField s) x k) (u .0) n })) v)
+      (λ v. v (f .number-inside))
+      (λ v.
+      ⊎-elim
+      (λ u. u (f .mark-inside))
+      (λ u. u .1 (record { month = f .k; is-leap = subst (λ x. MonthNamed c (elapsedIn s) (monthField s) x (f .k)) (u .0) (f .named) }))
+      v)
       (w .1))
-      k n z h l
 
   -- What is left to judge where system, year and month are right: the place.
   place-rows : {number : ℕ} → InScope (systemOf s) (yearField s) → (WrongMonth s → ⊥) → ((number ≡ 7) × NotPlaced s) ⊎ ((NotPlaced s → ⊥) × (number ≡ 0))
       → FirstOf (contentRows s) number
-  place-rows i w p = inr (λ v. v (i .system-inside), inr (λ v. v .1 (i .year-inside), inr (w, p)))
+  place-rows i w p =
+      let system-right : WrongSystem s → ⊥ = λ v. v (i .system-inside) in
+      let year-right : WrongYear s → ⊥ = λ v. v .1 (i .year-inside) in
+      inr (system-right, inr (year-right, inr (w, p)))
 
   -- Kind 1.
   pub day-not-placed : kindOf s ≡ 1 → (k : ℕ) → CitedMonth s k → (Inside 1 (monthLength c k) (dayField s) → ⊥) → NotPlaced s
@@ -100,7 +99,12 @@ module _ (s : List ℕ) where
       month-judged (judgeDay (systemOf s) (yearField s) (monthField s) (leapField s) (dayField s)) m (omega arith)
       (month-outcome (systemOf s) (yearField s) (monthField s) (leapField s))
       (month-refused _ _ _ _ _ m refl)
-      (λ i w k n z h l.
+      (λ f w.
+      let i = f .in-scope in
+      let k = f .k in
+      let n = f .named in
+      let z = f .not-refused in
+      let l = f .length-is in
       by-inside 1 (m .length) (dayField s)
       (λ e out.
       Judged.refused 7 (omega arith) (sym (day-wrong _ _ _ _ _ m refl z e))
@@ -137,7 +141,11 @@ module _ (s : List ℕ) where
       month-judged (judgeName (systemOf s) (yearField s) (monthField s) (leapField s) (nameField s)) m (omega arith)
       (month-outcome (systemOf s) (yearField s) (monthField s) (leapField s))
       (name-month-refused _ _ _ _ _ m refl)
-      (λ i w k n z h l.
+      (λ f w.
+      let i = f .in-scope in
+      let k = f .k in
+      let n = f .named in
+      let z = f .not-refused in
       let short = (reckoned c (consistent (systemOf s))) .month-most k in
       let least = (reckoned c (consistent (systemOf s))) .month-least k in
       by-order 59 (nameField s)
@@ -167,18 +175,21 @@ module _ (s : List ℕ) where
       (place-rows i w (inl (refl, name-not-placed kind k n (λ r p e. omega (arith, p, e))))))))
 
   -- A day that is named and has a date is kept.
-  kept-by-date : (r : ℕ) (d : Date) → Names s r → (i : InScope (systemOf s) (d .year)) → (k : ℕ)
-      → MonthNamed c (yearsElapsed c (d .year)) (d .month) (d .leap) k
-      → InMonth c k (r + c .anchor)
-      → d .day ≡ r + c .anchor - monthHead c k + 1
+  kept-by-date : (r : ℕ) (d : Date) → Names s r → DateFound (systemOf s) r d
       → Kept s (accept r (systemOf s) (d .year) (d .month) (d .leap) (d .day))
-  kept-by-date r d names i k n p e =
+  kept-by-date r d names f =
       record {
         year = d .year;
         month = d .month;
         leap = d .leap;
         day = d .day;
-        dated = record { k = k; in-scope = i; named = n; placed = record { at-least = omega arith; at-most = omega arith }; day-is = omega arith };
+        dated = record {
+          k = f .k;
+          in-scope = f .in-scope;
+          named = f .named;
+          placed = record { at-least = omega arith; at-most = omega arith };
+          day-is = omega arith;
+        };
         stored = refl;
         names = names;
       }
@@ -198,11 +209,11 @@ module _ (s : List ℕ) where
   register-day-judged-by kind d is (DateOutcome.day-refused i w e) =
       Judged.refused 7 (omega arith) (sym (date-refused _ _ d is (λ z. omega (arith, ap (λ x. x .refusal) e))) ∙ ap (λ x. refuse (x .refusal)) e)
       (inr (λ v. v i, inr (λ v. omega (arith, v .0), inr (λ v. omega (arith, v .0), inl (refl, day-out-of-scope kind w)))))
-  register-day-judged-by kind d is (DateOutcome.found i scope k n z p e) =
-      subst (Judged (contentRows s) s) (date-accepted _ _ d is z)
+  register-day-judged-by kind d is (DateOutcome.found f) =
+      subst (Judged (contentRows s) s) (date-accepted _ _ d is (f .not-refused))
       (Judged.accepted refl
-      (inr (λ v. v (i .system-inside), inr (λ v. omega (arith, v .0), inr (λ v. omega (arith, v .0), inr (λ v. v (Placed.day-in-scope kind scope), refl)))))
-      (kept-by-date (registerDayField s) d (Names.by-register-day kind refl) i k n p e))
+      (inr (λ v. v (f .in-scope .system-inside), inr (λ v. omega (arith, v .0), inr (λ v. omega (arith, v .0), inr (λ v. v (Placed.day-in-scope kind (f .day-in-scope)), refl)))))
+      (kept-by-date (registerDayField s) d (Names.by-register-day kind refl) f))
 
   pub register-day-judged : kindOf s ≡ 4 → Judged (contentRows s) s (judgeRegisterDay (systemOf s) (registerDayField s))
   register-day-judged kind = register-day-judged-by kind _ refl (date-outcome (systemOf s) (registerDayField s))
@@ -223,8 +234,8 @@ module _ (s : List ℕ) where
       → Judged (contentRows s) s (judgeRegisterDay (systemOf s) r)
   on-ordinal-judged r kind names scope d is (DateOutcome.system-refused w e) rows = absurd (⊎-elim (λ p. omega (arith, p .0)) (λ p. p .0 w) rows)
   on-ordinal-judged r kind names scope d is (DateOutcome.day-refused i w e) rows = absurd (w scope)
-  on-ordinal-judged r kind names scope d is (DateOutcome.found i p k n z m e) rows =
-      subst (Judged (contentRows s) s) (date-accepted _ _ d is z) (Judged.accepted refl rows (kept-by-date r d names i k n m e))
+  on-ordinal-judged r kind names scope d is (DateOutcome.found f) rows =
+      subst (Judged (contentRows s) s) (date-accepted _ _ d is (f .not-refused)) (Judged.accepted refl rows (kept-by-date r d names f))
 
   ordinal-judged-by : kindOf s ≡ 3 → (y : Days) → y ≡ daysOf (systemOf s) (yearField s) → DaysOutcome (systemOf s) (yearField s) y
       → Judged (contentRows s) s (judgeOrdinal (systemOf s) (yearField s) (ordinalField s))
@@ -234,7 +245,11 @@ module _ (s : List ℕ) where
   ordinal-judged-by kind y is (DaysOutcome.year-refused i w e) =
       Judged.refused 5 (omega arith) (sym (year-refused _ _ _ y is (λ z. omega (arith, ap (λ x. x .refusal) e))) ∙ ap (λ x. refuse (x .refusal)) e)
       (inr (λ v. v i, inl (refl, (omega arith, w))))
-  ordinal-judged-by kind y is (DaysOutcome.found i span-of z h l) =
+  ordinal-judged-by kind y is (DaysOutcome.found f) =
+      let i = f .in-scope in
+      let span-of = f .span in
+      let z = f .not-refused in
+      let l = f .length-is in
       by-inside 1 (y .length) (ordinalField s)
       (λ e out.
       Judged.refused 7 (omega arith) (sym (ordinal-wrong _ _ _ y is z e))

@@ -116,11 +116,11 @@ dated system year r i d = go (dateOf system r) (date-outcome system r)
     go : (v : Date) → DateOutcome system r v → Dated system r
     go v (DateOutcome.system-refused w e) = absurd (w (i .system-inside))
     go v (DateOutcome.day-refused s w e) = absurd (w (year-day-in-scope system year r i (d .span) (d .from) (d .before)))
-    go v (DateOutcome.found s p k n z m e) =
+    go v (DateOutcome.found f) =
         record {
           year = v .year;
           month = v .month;
           leap = v .leap;
           day = v .day;
-          on = record { k = k; in-scope = s; named = n; placed = record { at-least = omega arith; at-most = omega arith }; day-is = omega arith };
+          on = record { k = f .k; in-scope = f .in-scope; named = f .named; placed = record { at-least = omega arith; at-most = omega arith }; day-is = omega arith };
         }

@@ -13,7 +13,7 @@ use Rattle.calendar.proofs.EachSystem.{consistent}
 use Rattle.calendar.proofs.Laws.{number-inside, mark-inside}
 use Rattle.citation.specs.Record.{yearField, recordOf}
 use Rattle.citation.specs.Named.{elapsedIn, CitedMonth, Names, OnDate}
-use Rattle.citation.specs.Refused.{Accepted, WrongMonth, Placed}
+use Rattle.citation.specs.Refused.{TooShort, WrongKind, WrongLength, WrongSystem, WrongYear, WrongMonth, Placed, NotPlaced, Accepted}
 
 module _ (system r year month leap day : ℕ) (d : OnDate system r year month leap day) where
   abbrev c : Constants
@@ -32,6 +32,21 @@ module _ (system r year month leap day : ℕ) (d : OnDate system r year month le
   month-read : CitedMonth rec (d .k)
   month-read = subst (λ y. MonthNamed c (yearsElapsed c y) month leap (d .k)) (sym year-read) (d .named)
 
+  long-enough : TooShort rec → ⊥
+  long-enough w = omega arith
+
+  kind-right : WrongKind rec → ⊥
+  kind-right w = w (record { at-least = omega arith; at-most = omega arith })
+
+  length-right : WrongLength rec → ⊥
+  length-right w = w (refl, refl)
+
+  system-right : WrongSystem rec → ⊥
+  system-right w = w (d .in-scope .system-inside)
+
+  year-right : WrongYear rec → ⊥
+  year-right w = w .1 (subst (Inside 1 3000) (sym year-read) (d .in-scope .year-inside))
+
   month-right : WrongMonth rec → ⊥
   month-right w =
       ⊎-elim
@@ -43,23 +58,14 @@ module _ (system r year month leap day : ℕ) (d : OnDate system r year month le
       v)
       (w .1)
 
+  place-right : NotPlaced rec → ⊥
+  place-right w = w (Placed.day-in-month refl (d .k) month-read (d .placed))
+
   pub record-accepted : Accepted rec
   record-accepted =
       inr (
-        λ v. omega arith,
-        inr (
-          λ v. v (record { at-least = omega arith; at-most = omega arith }),
-          inr (
-            λ v. v (refl, refl),
-            inr (
-              λ v. v (d .in-scope .system-inside),
-              inr (
-                λ v. v .1 (subst (Inside 1 3000) (sym year-read) (d .in-scope .year-inside)),
-                inr (month-right, inr (λ v. v (Placed.day-in-month refl (d .k) month-read (d .placed)), refl)),
-              ),
-            ),
-          ),
-        ),
+        long-enough,
+        inr (kind-right, inr (length-right, inr (system-right, inr (year-right, inr (month-right, inr (place-right, refl)))))),
       )
 
   pub record-names : Names rec r

@@ -1,46 +1,52 @@
 -- How a request's answer follows from what it stands on: one law for every request.
 use Prim.Native.Nat.{ℕ, _<_}
 use mathlib.Core.Path.{_≡_, refl, _∙_, subst, sym, ap}
+use mathlib.Core.Bool.{cond}
 use native.Mathlib.Omega.{arith}
+use lib.Dec.{eqb}
 use borrow.Author.Tests.{eq-eqb, ne-eqb}
 use Rattle.calendar.specs.declared.data.Constants.{Constants}
 use Rattle.reckoning.specs.declared.asked.Asked.{Asked}
 use Rattle.calendar.specs.Systems.{guantian, jiyuan, constantsOf, yearsElapsed}
 use Rattle.reckoning.specs.Refusal.{yearRefusal}
 use Rattle.reckoning.proofs.Refusals.{in-scope, accepted}
-use Rattle.reckoning.specs.Asked.{askedOf, answerTo}
+use Rattle.reckoning.specs.Asked.{askedOf}
+use Rattle.reckoning.specs.Requests.{answerUnless}
 use Rattle.reckoning.specs.Room.{Reach}
 use Rattle.reckoning.specs.Scope.{InScope}
 use Rattle.reckoning.proofs.Scope.{reach}
 
 module _ {A : Type 0} (answer : Constants → ℕ → A) (blank : ℕ → A) where
-  pub refused : (a b : Asked) → a ≡ b → (a .refusal ≡ 0 → ⊥) → blank (a .refusal) ≡ answerTo b answer blank
-  refused a b e no-answer = subst (λ x. blank (a .refusal) ≡ answerTo x answer blank) e (simp (ne-eqb (a .refusal) 0 no-answer))
+  abbrev answer-to : Asked → A
+  answer-to a = cond (eqb (a .refusal) 0) (answer (a .c) (a .n)) (blank (a .refusal))
 
-  pub answered : (a b : Asked) → a ≡ b → a .refusal ≡ 0 → answer (a .c) (a .n) ≡ answerTo b answer blank
-  answered a b e given = subst (λ x. answer (a .c) (a .n) ≡ answerTo x answer blank) e (simp (eq-eqb (a .refusal) 0 given))
+  pub refused : (a b : Asked) → a ≡ b → (a .refusal ≡ 0 → ⊥) → blank (a .refusal) ≡ answer-to b
+  refused a b e no-answer = subst (λ x. blank (a .refusal) ≡ answer-to x) e (simp (ne-eqb (a .refusal) 0 no-answer))
+
+  pub answered : (a b : Asked) → a ≡ b → a .refusal ≡ 0 → answer (a .c) (a .n) ≡ answer-to b
+  answered a b e given = subst (λ x. answer (a .c) (a .n) ≡ answer-to x) e (simp (eq-eqb (a .refusal) 0 given))
 
   -- a request by system and year, refused or answered
   pub refused-year : (system year refusal : ℕ) → yearRefusal system year ≡ refusal → 0 < refusal
-      → answerTo (askedOf (yearRefusal system year) system year) answer blank ≡ blank refusal
+      → answerUnless (yearRefusal system year) system year answer blank ≡ blank refusal
   refused-year system year refusal e some =
       let a = askedOf (yearRefusal system year) system year in
       sym (refused a a refl (λ z. omega arith)) ∙ ap blank e
 
   pub answered-year : (system year : ℕ) → InScope system year
       → answer (constantsOf system) (yearsElapsed (constantsOf system) year)
-      ≡ answerTo (askedOf (yearRefusal system year) system year) answer blank
+      ≡ answerUnless (yearRefusal system year) system year answer blank
   answered-year system year s =
       let a = askedOf (yearRefusal system year) system year in answered a a refl (in-scope system year s)
 
   -- by the constants that the system's number picks
   pub refused-here : (system year refusal : ℕ) → refusal ≡ yearRefusal system year → (refusal ≡ 0 → ⊥)
-      → blank refusal ≡ answerTo (askedOf (yearRefusal system year) system year) answer blank
+      → blank refusal ≡ answerUnless (yearRefusal system year) system year answer blank
   refused-here system year refusal e h =
       refused (askedOf refusal system year) _ (ap (λ r. askedOf r system year) e) h
 
   pub answered-here : (system year : ℕ) (c : Constants) → constantsOf system ≡ c → yearRefusal system year ≡ 0
-      → answer c (yearsElapsed c year) ≡ answerTo (askedOf (yearRefusal system year) system year) answer blank
+      → answer c (yearsElapsed c year) ≡ answerUnless (yearRefusal system year) system year answer blank
   answered-here system year c e z =
       sym (ap (λ k. answer k (yearsElapsed k year)) e)
       ∙ answered (askedOf (yearRefusal system year) system year) _ refl z

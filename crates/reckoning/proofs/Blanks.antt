@@ -7,8 +7,8 @@ use Rattle.calendar.specs.declared.data.Constants.{Constants}
 use Rattle.calendar.proofs.Rising.{by-order}
 use Rattle.reckoning.specs.Rows.{FirstOf, yearRows, qiRows}
 use Rattle.reckoning.specs.Refusal.{yearRefusal, qiRefusal}
-use Rattle.reckoning.specs.Asked.{askedOf, answerTo}
-use Rattle.reckoning.specs.Requests.{solsticeIn, noSolstice, solsticeOf, qiIn, noQi, qiOf, yearIn, noYear, yearOf, sheetIn, noSheet, sheetOf}
+use Rattle.reckoning.specs.Asked.{askedOf}
+use Rattle.reckoning.specs.Requests.{answerUnless, solsticeIn, noSolstice, solsticeOf, qiIn, noQi, qiOf, yearIn, noYear, yearOf, sheetIn, noSheet, sheetOf}
 use Rattle.reckoning.proofs.Refusals.{by-scope, in-scope, in-scope-qi, qi-unseen, qi-nine}
 use Rattle.reckoning.proofs.Answers.{refused}
 
@@ -37,7 +37,7 @@ qi-refusal-first system year i =
 
 -- Refused, each gives its blank with the number.
 blank-given : {A : Type 0} (answer : Constants → ℕ → A) (blank : ℕ → A) (refusal system year : ℕ) → (refusal ≡ 0 → ⊥)
-    → answerTo (askedOf refusal system year) answer blank ≡ blank refusal
+    → answerUnless refusal system year answer blank ≡ blank refusal
 blank-given answer blank refusal system year some =
     sym (refused answer blank (askedOf refusal system year) (askedOf refusal system year) refl some)
 

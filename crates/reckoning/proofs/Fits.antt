@@ -27,13 +27,12 @@ month-fits system year number leap v e z = go (subst (MonthOutcome system year n
     go (MonthOutcome.system-refused w f) = absurd (omega (arith, ap (λ m. m .refusal) f))
     go (MonthOutcome.year-refused i w f) = absurd (omega (arith, ap (λ m. m .refusal) f))
     go (MonthOutcome.month-refused s w f) = absurd (omega (arith, ap (λ m. m .refusal) f))
-    go (MonthOutcome.found s a b k m f head length) =
+    go (MonthOutcome.found m) =
         let c = constantsOf system in
-        let n = yearsElapsed c year in
-        let w = within c (consistent system) n k (m .in-year) in
+        let w = within c (consistent system) (yearsElapsed c year) (m .k) (m .named .in-year) in
         record {
-          head-small = omega (arith, (reach system year (s .year-inside)) .head k (w .0) (omega arith));
-          length-most = omega (arith, (reckoned c (consistent system)) .month-most k);
+          head-small = omega (arith, (reach system year (m .in-scope .year-inside)) .head (m .k) (w .0) (omega arith));
+          length-most = omega (arith, (reckoned c (consistent system)) .month-most (m .k));
         }
 
 pub record DaysFit (v : Days) : Type 0 where
@@ -46,11 +45,11 @@ days-fit system year v e z = go (subst (DaysOutcome system year) (sym e) (days-o
     go : DaysOutcome system year v → DaysFit v
     go (DaysOutcome.system-refused w f) = absurd (omega (arith, ap (λ m. m .refusal) f))
     go (DaysOutcome.year-refused i w f) = absurd (omega (arith, ap (λ m. m .refusal) f))
-    go (DaysOutcome.found s y f head length) =
+    go (DaysOutcome.found y) =
         let c = constantsOf system in
         let n = yearsElapsed c year in
         let ok = consistent system in
         record {
-          head-small = omega (arith, first-head c n (reach system year (s .year-inside)), ap (monthHead c) (span-first c ok y));
-          length-most = omega (arith, year-length-most c ok y);
+          head-small = omega (arith, first-head c n (reach system year (y .in-scope .year-inside)), ap (monthHead c) (span-first c ok (y .span)));
+          length-most = omega (arith, year-length-most c ok (y .span));
         }

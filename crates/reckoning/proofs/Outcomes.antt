@@ -40,7 +40,8 @@ days-outcome system year =
     let a = first-head c n r in
     let b = next-head c n r in
     subst (O.DaysOutcome system year) (answered-year daysIn noDays system year s)
-    (O.DaysOutcome.found s (span c (consistent system) n) refl (omega arith) (omega arith)))
+    (O.DaysOutcome.found
+    (record { in-scope = s; span = span c (consistent system) n; not-refused = refl; head-is = omega arith; length-is = omega arith })))
 
 by-bool : {P : Type 0} (b : Bool) → (b ≡ true → P) → (b ≡ false → P) → P
 by-bool true f g = f refl
@@ -56,7 +57,18 @@ found-month system year number leap k s a b m e =
     let n = yearsElapsed c year in
     let w = within c (consistent system) n k (m .in-year) in
     let r = (reach system year (s .year-inside)) .head k (w .0) (omega arith) in
-    subst (O.MonthOutcome system year number leap) e (O.MonthOutcome.found s a b k m refl (omega arith) refl)
+    subst (O.MonthOutcome system year number leap) e
+    (O.MonthOutcome.found
+    (record {
+      in-scope = s;
+      number-inside = a;
+      mark-inside = b;
+      k = k;
+      named = m;
+      not-refused = refl;
+      head-is = omega arith;
+      length-is = refl;
+    }))
 
 month-refused : (system year number leap refusal : ℕ) → yearRefusal system year ≡ refusal → 0 < refusal
     → monthOf system year number leap ≡ noMonth refusal
@@ -150,13 +162,15 @@ found-date system r system-inside p =
     let year = n + c .common - c .elapsed in
     let same : n ≡ yearsElapsed c year = omega arith in
     O.DateOutcome.found
-    (record { system-inside = system-inside; year-inside = record { at-least = omega arith; at-most = omega arith } })
-    p
-    k
-    (subst (λ m. MonthNamed c m (monthNumber c k) (leapMark c k) k) same (named c ok n k (in-year c ok n k (in-its-year K k))))
-    refl
-    (K .day-from d, K .day-before d)
-    refl
+    (record {
+      in-scope = record { system-inside = system-inside; year-inside = record { at-least = omega arith; at-most = omega arith } };
+      day-in-scope = p;
+      k = k;
+      named = subst (λ m. MonthNamed c m (monthNumber c k) (leapMark c k) k) same (named c ok n k (in-year c ok n k (in-its-year K k)));
+      not-refused = refl;
+      in-month = (K .day-from d, K .day-before d);
+      day-is = refl;
+    })
 
 pub date-outcome : (system r : ℕ) → O.DateOutcome system r (dateOf system r)
 unfolding dateOf dateIn

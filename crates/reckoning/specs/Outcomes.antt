@@ -12,18 +12,32 @@ use Rattle.reckoning.specs.declared.data.Date.{Date}
 use Rattle.reckoning.specs.Scope.{InScope}
 use Rattle.reckoning.specs.Requests.{noDays, noMonth, noDate}
 
--- The days of a year: refused 4, then 5; or its head and its length.
+-- The days of a year, answered: its head and its length.
+pub record DaysFound (system year : ℕ) (v : Days) : Type 0 where
+  pub in-scope : InScope system year
+  pub span : Span (constantsOf system) (yearsElapsed (constantsOf system) year)
+  pub not-refused : v .refusal ≡ 0
+  pub head-is : v .head .0 + constantsOf system .anchor ≡ yearHead span
+  pub length-is : v .length ≡ yearLength span
+
+-- Refused 4, then 5; or answered.
 pub data DaysOutcome (system year : ℕ) (v : Days) : Type 0 where
   system-refused : (Inside 1 2 system → ⊥) → v ≡ noDays 4 → DaysOutcome system year v
   year-refused : Inside 1 2 system → (Inside 1 3000 year → ⊥) → v ≡ noDays 5 → DaysOutcome system year v
-  found : InScope system year
-      → (y : Span (constantsOf system) (yearsElapsed (constantsOf system) year))
-      → v .refusal ≡ 0
-      → v .head .0 + constantsOf system .anchor ≡ yearHead y
-      → v .length ≡ yearLength y
-      → DaysOutcome system year v
+  found : DaysFound system year v → DaysOutcome system year v
 
--- One month: refused 4, then 5, then 6; or its head and its length.
+-- One month, answered: its head and its length.
+pub record MonthFound (system year number leap : ℕ) (v : Month) : Type 0 where
+  pub in-scope : InScope system year
+  pub number-inside : Inside 1 12 number
+  pub mark-inside : Inside 0 1 leap
+  pub k : ℕ
+  pub named : MonthNamed (constantsOf system) (yearsElapsed (constantsOf system) year) number leap k
+  pub not-refused : v .refusal ≡ 0
+  pub head-is : v .head .0 + constantsOf system .anchor ≡ monthHead (constantsOf system) k
+  pub length-is : v .length ≡ monthLength (constantsOf system) k
+
+-- Refused 4, then 5, then 6; or answered.
 pub data MonthOutcome (system year number leap : ℕ) (v : Month) : Type 0 where
   system-refused : (Inside 1 2 system → ⊥) → v ≡ noMonth 4 → MonthOutcome system year number leap v
   year-refused : Inside 1 2 system → (Inside 1 3000 year → ⊥) → v ≡ noMonth 5 → MonthOutcome system year number leap v
@@ -32,15 +46,7 @@ pub data MonthOutcome (system year number leap : ℕ) (v : Month) : Type 0 where
       ⊎ ((Inside 0 1 leap → ⊥) ⊎ ((leap ≡ 1) × (HasLeap (constantsOf system) (yearsElapsed (constantsOf system) year) number → ⊥)))
       → v ≡ noMonth 6
       → MonthOutcome system year number leap v
-  found : InScope system year
-      → Inside 1 12 number
-      → Inside 0 1 leap
-      → (k : ℕ)
-      → MonthNamed (constantsOf system) (yearsElapsed (constantsOf system) year) number leap k
-      → v .refusal ≡ 0
-      → v .head .0 + constantsOf system .anchor ≡ monthHead (constantsOf system) k
-      → v .length ≡ monthLength (constantsOf system) k
-      → MonthOutcome system year number leap v
+  found : MonthFound system year number leap v → MonthOutcome system year number leap v
 
 -- The days of years 1 to 3000, by the heads of years 1 and 3001.
 pub record DayInScope (system r : ℕ) : Type 0 where
@@ -49,16 +55,19 @@ pub record DayInScope (system r : ℕ) : Type 0 where
   pub from : yearHead first ≤ r + constantsOf system .anchor
   pub before : r + constantsOf system .anchor < yearHead past
 
--- The date of a register day: refused 4, then 7; or a year in scope, the month that has the day, by number and leap
--- mark, and the day's place in it.
+-- The date of a register day, answered: a year in scope, the month that has the day, by number and leap mark, and the
+-- day's place in it.
+pub record DateFound (system r : ℕ) (v : Date) : Type 0 where
+  pub in-scope : InScope system (v .year)
+  pub day-in-scope : DayInScope system r
+  pub k : ℕ
+  pub named : MonthNamed (constantsOf system) (yearsElapsed (constantsOf system) (v .year)) (v .month) (v .leap) k
+  pub not-refused : v .refusal ≡ 0
+  pub in-month : InMonth (constantsOf system) k (r + constantsOf system .anchor)
+  pub day-is : v .day ≡ r + constantsOf system .anchor - monthHead (constantsOf system) k + 1
+
+-- Refused 4, then 7; or answered.
 pub data DateOutcome (system r : ℕ) (v : Date) : Type 0 where
   system-refused : (Inside 1 2 system → ⊥) → v ≡ noDate 4 → DateOutcome system r v
   day-refused : Inside 1 2 system → (DayInScope system r → ⊥) → v ≡ noDate 7 → DateOutcome system r v
-  found : InScope system (v .year)
-      → DayInScope system r
-      → (k : ℕ)
-      → MonthNamed (constantsOf system) (yearsElapsed (constantsOf system) (v .year)) (v .month) (v .leap) k
-      → v .refusal ≡ 0
-      → InMonth (constantsOf system) k (r + constantsOf system .anchor)
-      → v .day ≡ r + constantsOf system .anchor - monthHead (constantsOf system) k + 1
-      → DateOutcome system r v
+  found : DateFound system r v → DateOutcome system r v

@@ -2,10 +2,11 @@
 use Prim.Native.Nat.{ℕ, _+_, _-_}
 use mathlib.Core.Bool.{cond}
 use mathlib.Core.List.{List}
+use lib.Dec.{eqb}
 use lib.ListN.{replicate}
 use Rattle.calendar.specs.declared.data.Constants.{Constants}
 use Rattle.calendar.specs.declared.data.RegisterDay.{RegisterDay}
-use Rattle.calendar.specs.Systems.{constantsOf, registerDay}
+use Rattle.calendar.specs.Systems.{constantsOf, yearsElapsed, registerDay}
 use Rattle.calendar.specs.Name.{nameOf}
 use Rattle.calendar.specs.Qi.{solsticeDay, solsticeRemainder, qi, dayOf, partsOf, unitsOf}
 use Rattle.calendar.specs.Month.{monthHead}
@@ -18,11 +19,16 @@ use Rattle.reckoning.specs.declared.data.Month.{Month}
 use Rattle.reckoning.specs.declared.data.Days.{Days}
 use Rattle.reckoning.specs.declared.data.Date.{Date}
 use Rattle.reckoning.specs.Refusal.{outside, yearRefusal, qiRefusal, monthWrong, dayWrong}
-use Rattle.reckoning.specs.Asked.{askedOf, answerTo}
 use Rattle.reckoning.specs.Filled.{filled}
 
 abbrev pub asRegisterDay : ℕ → RegisterDay
 asRegisterDay r = record { 0 = r }
+
+-- A request by system and year: answered by the system's constants for the years elapsed unless there is a refusal, and
+-- then by the blank answer with its number.
+abbrev pub answerUnless : {A : Type 0} → ℕ → ℕ → ℕ → (Constants → ℕ → A) → (ℕ → A) → A
+answerUnless refusal system year answer blank =
+    cond (eqb refusal 0) (answer (constantsOf system) (yearsElapsed (constantsOf system) year)) (blank refusal)
 
 -- The solstice of year n. Refused: zeros.
 abbrev pub solsticeIn : Constants → ℕ → Solstice
@@ -33,7 +39,7 @@ abbrev pub noSolstice : ℕ → Solstice
 noSolstice refusal = record { refusal = refusal; day = asRegisterDay 0; remainder = 0 }
 
 unfoldable pub solsticeOf : ℕ → ℕ → Solstice
-solsticeOf system year = answerTo (askedOf (yearRefusal system year) system year) solsticeIn noSolstice
+solsticeOf system year = answerUnless (yearRefusal system year) system year solsticeIn noSolstice
 
 -- Qi i of year n, its moment told as register day, parts and small units. Refused: zeros.
 abbrev pub qiIn : Constants → ℕ → ℕ → Qi
@@ -45,7 +51,7 @@ abbrev pub noQi : ℕ → Qi
 noQi refusal = record { refusal = refusal; day = asRegisterDay 0; parts = 0; units = 0 }
 
 unfoldable pub qiOf : ℕ → ℕ → ℕ → Qi
-qiOf system year i = answerTo (askedOf (qiRefusal system year i) system year) (λ c n. qiIn c n i) noQi
+qiOf system year i = answerUnless (qiRefusal system year i) system year (λ c n. qiIn c n i) noQi
 
 -- The months of year n in order: their heads with the next year's head after them, their numbers and leap marks; 0 in
 -- unused places. Refused: count, heads, numbers and marks all 0.
@@ -81,7 +87,7 @@ abbrev pub noYear : ℕ → Year
 noYear refusal = record { refusal = refusal; count = 0; heads = noHeads; numbers = noMarks; leaps = noMarks }
 
 unfoldable pub yearOf : ℕ → ℕ → Year
-yearOf system year = answerTo (askedOf (yearRefusal system year) system year) yearIn noYear
+yearOf system year = answerUnless (yearRefusal system year) system year yearIn noYear
 
 -- The names of the days of year n, one to a day, and 255 past its end. Refused: 384 times 255.
 abbrev pub noNames : List ℕ
@@ -100,7 +106,7 @@ abbrev pub noSheet : ℕ → Sheet
 noSheet refusal = record { refusal = refusal; names = noNames }
 
 unfoldable pub sheetOf : ℕ → ℕ → Sheet
-sheetOf system year = answerTo (askedOf (yearRefusal system year) system year) sheetIn noSheet
+sheetOf system year = answerUnless (yearRefusal system year) system year sheetIn noSheet
 
 -- The days of year n. Refused: zeros.
 abbrev pub daysIn : Constants → ℕ → Days
@@ -112,7 +118,7 @@ abbrev pub noDays : ℕ → Days
 noDays refusal = record { refusal = refusal; head = asRegisterDay 0; length = 0 }
 
 unfoldable pub daysOf : ℕ → ℕ → Days
-daysOf system year = answerTo (askedOf (yearRefusal system year) system year) daysIn noDays
+daysOf system year = answerUnless (yearRefusal system year) system year daysIn noDays
 
 -- The month of year n with a number and a leap mark; 6 where there is none. Refused: zeros.
 abbrev pub monthAt : Constants → ℕ → Month
@@ -127,7 +133,7 @@ monthIn c n number leap = cond (monthWrong c n number leap) (noMonth 6) (monthAt
 
 unfoldable pub monthOf : ℕ → ℕ → ℕ → ℕ → Month
 monthOf system year number leap =
-    answerTo (askedOf (yearRefusal system year) system year) (λ c n. monthIn c n number leap) noMonth
+    answerUnless (yearRefusal system year) system year (λ c n. monthIn c n number leap) noMonth
 
 -- The date of a register day: its year, its month's number and leap mark, its place in the month; 7 outside years 1 to
 -- 3000. Refused: zeros.
