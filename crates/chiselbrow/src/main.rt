@@ -1,12 +1,14 @@
 // Reads citation records from standard input and writes a line for each. What it writes is proved in `lines`; here bytes
 // are moved between that and the system.
 ghost use mathlib.Core.Path.{_≡_};
-ghost use Prim.Native.Nat.{_≤_};
-ghost use lib.ListN.{length};
+ghost use Prim.Native.Nat.{_+_, _-_, _≤_};
+ghost use lib.ListN.{length, drop};
+ghost use lib.Seq.{paste};
+ghost use Rattle.lines.specs.Program.{portionOf};
 use libc::STDIN_FILENO;
 use libc::STDOUT_FILENO;
 use lines::convert::convert;
-use lines::convert::starts_badly;
+use lines::convert::is_misframed;
 
 // How far a buffer is done with, whether there may be more in it, and whether the output still takes bytes.
 struct Done {
@@ -16,19 +18,19 @@ struct Done {
 }
 
 // Writes as many lines as one output buffer takes.
-fn step(input: &[u8], from: usize, out: &mut [u8]) -> Done
+fn convert_once(input: &[u8], from: usize, out: &mut [u8]) -> Done
     requires { ⌜ from ≤ length (now input) ⌝ }
-    ensures { λ r. ⌜ (r .to ≤ length (now (input .entry))) × (length (now (out .exit)) ≡ length (now (out .entry))) ⌝ }
+    ensures { λ r. ⌜ (r .to ≡ from + portionOf (drop from (now (input .entry))) (length (now (out .entry))) .read) × (r .to ≤ length (now (input .entry))) × (length (now (out .exit)) ≡ length (now (out .entry))) ⌝ }
 {
     let p = convert(&input[from..], out);
-    let written = p.written;
-    if written == 0 {
+    if p.read == 0 {
         return Done {
             to: from,
             more: false,
             open: true,
         };
     }
+    let written = p.written;
     let open = io::write_all(STDOUT_FILENO, &out[..written]);
     Done {
         to: from + p.read,
@@ -38,16 +40,16 @@ fn step(input: &[u8], from: usize, out: &mut [u8]) -> Done
 }
 
 // Writes the lines of all whole records. A proved loop has to end, so it counts its turns.
-fn drain(input: &[u8], out: &mut [u8]) -> Done
+fn convert_all(input: &[u8], out: &mut [u8]) -> Done
     ensures { λ r. ⌜ r .to ≤ length (now (input .entry)) ⌝ }
 {
-    let mut s = step(input, 0, out);
+    let mut s = convert_once(input, 0, out);
     let mut turns = input.len();
     while turns > 0 {
         if !s.more {
             return s;
         }
-        s = step(input, s.to, out);
+        s = convert_once(input, s.to, out);
         turns -= 1;
     }
     s
@@ -56,7 +58,7 @@ fn drain(input: &[u8], out: &mut [u8]) -> Done
 // Moves the bytes from `from` on to the front, and gives their number.
 fn keep(buffer: &mut [u8], from: usize, to: usize) -> usize
     requires { ⌜ (from ≤ to) × (to ≤ length (now buffer)) ⌝ }
-    ensures { λ r. ⌜ r ≤ length (now (buffer .exit)) ⌝ }
+    ensures { λ r. ⌜ (r ≡ to - from) × (now (buffer .exit) ≡ paste (now (buffer .entry)) 0 (drop from (now (buffer .entry))) (to - from)) ⌝ }
 {
     let mut i = 0;
     while i < to - from {
@@ -94,13 +96,13 @@ fn receive(input: &mut [u8], kept: usize) -> usize
 }
 
 // Writes all the lines of the first `filled` bytes, and keeps what is no whole record yet.
-fn pour(input: &mut [u8], filled: usize, out: &mut [u8]) -> Left
+fn convert_filled(input: &mut [u8], filled: usize, out: &mut [u8]) -> Left
     requires { ⌜ filled ≤ length (now input) ⌝ }
     ensures { λ r. ⌜ r .kept ≤ length (now (input .exit)) ⌝ }
 {
-    let s = drain(&input[..filled], out);
+    let s = convert_all(&input[..filled], out);
     let to = s.to;
-    if starts_badly(&input[to..filled]) {
+    if is_misframed(&input[to..filled]) {
         refuse();
         return Left {
             kept: 0,
@@ -129,7 +131,7 @@ fn turn(input: &mut [u8], kept: usize, out: &mut [u8]) -> Left
             more: false,
         };
     }
-    pour(input, filled, out)
+    convert_filled(input, filled, out)
 }
 
 // Turn after turn, until the input ends or no more is to be written.

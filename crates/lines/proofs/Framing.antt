@@ -11,8 +11,7 @@ use borrow.Author.Tests.{le-leb, lt-leb, leb-true}
 use Rattle.reckoning.specs.Refusal.{outside}
 use Rattle.reckoning.proofs.Refusals.{inside-of}
 use Rattle.citation.specs.Record.{lengthField}
-use Rattle.lines.specs.Line.{lineOf}
-use Rattle.lines.specs.Program.{framed, Writes, nextOf}
+use Rattle.lines.specs.Program.{framed, nextOf}
 
 -- The length field at a place of a buffer.
 pub field-at : (s : List ℕ) (at : ℕ) → lengthField (drop at s) ≡ getD s at 0 + 256 * getD s (at + 1) 0
@@ -113,7 +112,7 @@ module _ (f t : List ℕ) (e : framed f ≡ true) where
       let g = framed-is f e in
       ap₂ (λ a b. a + 256 * b) (List·getD-append f t 0 0 (omega (arith, g .has-field))) (List·getD-append f t 0 1 (omega (arith, g .has-field)))
 
-  still-framed : framed (f ++ t) ≡ true
+  pub still-framed : framed (f ++ t) ≡ true
   still-framed =
       let g = framed-is f e in
       let long = length-append f t in
@@ -123,10 +122,8 @@ module _ (f t : List ℕ) (e : framed f ≡ true) where
         le-leb (lengthField (f ++ t)) (length (f ++ t)) (omega (arith, same-field, g .all-there)),
       )
 
-  pub line-first : (u : List ℕ) → Writes (drop (lengthField f) f ++ t) u → Writes (f ++ t) (lineOf (take (lengthField f) f) ++ u)
-  line-first u w =
-      let g = framed-is f e in
-      let n = lengthField f in
-      let taken : take (lengthField (f ++ t)) (f ++ t) ≡ take n f = ap (λ k. take k (f ++ t)) same-field ∙ take-append-le n f t (g .all-there) in
-      let dropped : drop (lengthField (f ++ t)) (f ++ t) ≡ drop n f ++ t = ap (λ k. drop k (f ++ t)) same-field ∙ drop-append-le n f t (g .all-there) in
-      Writes.line still-framed (ap (λ r. lineOf r ++ u) (sym taken)) (subst (λ r. Writes r u) (sym dropped) w)
+  pub same-front : take (lengthField (f ++ t)) (f ++ t) ≡ take (lengthField f) f
+  same-front = ap (λ n. take n (f ++ t)) same-field ∙ take-append-le (lengthField f) f t (framed-is f e .all-there)
+
+  pub same-back : drop (lengthField (f ++ t)) (f ++ t) ≡ drop (lengthField f) f ++ t
+  same-back = ap (λ n. drop n (f ++ t)) same-field ∙ drop-append-le (lengthField f) f t (framed-is f e .all-there)

@@ -9,5 +9,13 @@ pub mod Decimals
 pub mod Lines
 -- Records framed in a buffer.
 pub mod Framing
+-- An input cut into records, one after another.
+pub mod Cutting
 -- One turn of the loop over a buffer.
 pub mod Turn
+-- Buffer after buffer, what the program writes on the whole input.
+pub mod WholeProgram
+-- The line of a record, by the reckoning.
+pub mod Told
+-- The run that paper 01 shows.
+pub mod Examples

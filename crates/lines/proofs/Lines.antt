@@ -7,7 +7,7 @@ use lib.Dec.{eqb}
 use borrow.Author.Tests.{eq-eqb, ne-eqb}
 use Rattle.citation.specs.declared.judge.Judgement.{Judgement}
 use Rattle.citation.specs.Store.{judgeOf}
-use Rattle.lines.specs.Line.{star, dayLine, refusedLine, lineOf}
+use Rattle.lines.specs.Line.{star, storedDate, dayLine, refusedLine, lineOf}
 
 -- A star and a space, or a space alone.
 pub star-and-space : (leap both : ℕ) (text : List ℕ) → both ≡ cond (eqb leap 0) 0 1
@@ -20,12 +20,12 @@ star-and-space leap both text e = ap (λ x. cond (eqb x 0) (32 ∷ []) (42 ∷ 3
 
 module _ (s : List ℕ) (j : Judgement) (e : j ≡ judgeOf s) where
   abbrev line-by : Judgement → List ℕ
-  line-by x = cond (eqb (x .refusal) 0) (dayLine (x .stored) (x .day .0)) (refusedLine (x .refusal))
+  line-by x = cond (eqb (x .refusal) 0) (dayLine (storedDate (x .stored)) (x .day .0)) (refusedLine (x .refusal))
 
   pub line-refused : (j .refusal ≡ 0 → ⊥) → refusedLine (j .refusal) ≡ lineOf s
   unfolding lineOf
   line-refused h = subst (λ x. refusedLine (j .refusal) ≡ line-by x) e (simp (ne-eqb (j .refusal) 0 h))
 
-  pub line-accepted : j .refusal ≡ 0 → dayLine (j .stored) (j .day .0) ≡ lineOf s
+  pub line-accepted : j .refusal ≡ 0 → dayLine (storedDate (j .stored)) (j .day .0) ≡ lineOf s
   unfolding lineOf
-  line-accepted h = subst (λ x. dayLine (j .stored) (j .day .0) ≡ line-by x) e (simp (eq-eqb (j .refusal) 0 h))
+  line-accepted h = subst (λ x. dayLine (storedDate (j .stored)) (j .day .0) ≡ line-by x) e (simp (eq-eqb (j .refusal) 0 h))

@@ -1,37 +1,57 @@
 -- One turn of the loop over a buffer.
 use Prim.Native.Nat.{ℕ, _+_, _-_, _≤_}
-use mathlib.Core.Path.{_≡_, subst, ap, sym, _∙_}
-use mathlib.Core.List.{List, _++_, append-assoc}
+use mathlib.Core.Path.{_≡_, refl, ap, ap₂, sym, _∙_}
+use mathlib.Core.Bool.{Bool, true, false, cond, _&&_}
+use mathlib.Core.List.{List, [], _++_, append-assoc, append-nil}
 use native.Mathlib.Omega.{arith}
-use lib.ListN.{length, take, drop, length-drop}
-use lib.Seq.{drop-drop}
+use lib.Dec.{leb}
+use lib.ListN.{length, take, drop, length-drop, take-append-drop}
+use lib.Seq.{drop-drop, length-take-le}
+use borrow.Author.Tests.{le-leb}
+use Rattle.calendar.proofs.Rising.{by-order}
+use Rattle.citation.specs.Record.{lengthField}
+use Rattle.lines.specs.declared.convert.Progress.{Progress}
 use Rattle.lines.specs.Line.{lineOf}
 use Rattle.lines.specs.Wrote.{Wrote}
-use Rattle.lines.specs.Program.{Writes}
+use Rattle.lines.specs.Program.{framed, framing, Portion, noPortion, portionThen, portionOf, nextOf, progressOf, linesInto}
 use Rattle.lines.proofs.Writing.{wrote-front, wrote-back}
-use Rattle.lines.proofs.Framing.{Next, line-first}
+use Rattle.lines.proofs.Framing.{Next}
+use Rattle.lines.proofs.Cutting.{by-bool, some-bytes, portion-full, portion-none, portion-more}
 
--- The lines so far and whatever comes after them are what the program writes.
-abbrev pub SoFar : List ℕ → ℕ → List ℕ → ℕ → Type 0
-SoFar s read out written = (t u : List ℕ) → Writes (drop read s ++ t) u → Writes (s ++ t) (take written out ++ u)
+-- The lines so far, and then what the rest of the output takes, are what the whole takes.
+abbrev pub SoFar : List ℕ → ℕ → ℕ → List ℕ → ℕ → Type 0
+SoFar s size read out written =
+    portionOf s size ≡ portionThen read (take written out) (portionOf (drop read s) (size - written))
 
-module _ (s out out′ : List ℕ) (read written written′ size n : ℕ) (here : Next s read size n)
+pub so-far-starts : (s : List ℕ) (size : ℕ) (out : List ℕ) → SoFar s size 0 out 0
+so-far-starts s size out =
+    let all : size - 0 ≡ size = omega arith in
+    let p = portionOf s size in
+    let none : p .read ≡ 0 + p .read = omega arith in
+    ap (λ n. record { read = n; text = p .text }) none ∙ ap (λ k. portionThen 0 [] (portionOf s k)) (sym all)
+
+module _ (s out out′ : List ℕ) (read written written′ size n : ℕ) (here : Next s read (size - written) n)
     (w : Wrote out written (lineOf (take (read + n - read) (drop read s))) out′ written′) where
-  pub one-more : SoFar s read out written → SoFar s (read + n) out′ written′
-  one-more so-far t u rest =
+  pub one-more : SoFar s size read out written → SoFar s size (read + n) out′ written′
+  one-more so-far =
       let f = drop read s in
+      let line = lineOf (take n f) in
       let same : read + n - read ≡ n = omega arith in
-      let next : drop (read + n) s ≡ drop n f = sym (drop-drop n read s) in
-      let from-here : Writes (f ++ t) (lineOf (take n f) ++ u) =
-      subst (λ k. Writes (drop k f ++ t) u → Writes (f ++ t) (lineOf (take k f) ++ u)) (sym (here .is-length)) (line-first f t (here .is-framed) u)
-      (subst (λ r. Writes (r ++ t) u) next rest)
+      let line-is : lineOf (take (read + n - read) f) ≡ line = ap (λ k. lineOf (take k f)) same in
+      let text : take written′ out′ ≡ take written out ++ line = wrote-front out out′ _ written written′ w ∙ ap (λ t. take written out ++ t) line-is in
+      let left : size - written - length line ≡ size - written′ = omega (arith, w .ends, ap length line-is) in
+      let p = portionOf (drop (read + n) s) (size - written′) in
+      let next : portionOf f (size - written) ≡ portionThen n line p =
+      portion-more f (size - written) (here .room) (here .is-framed)
+      ∙ ap
+      (λ k. portionThen k (lineOf (take k f)) (portionOf (drop k f) (size - written - length (lineOf (take k f)))))
+      (sym (here .is-length))
+      ∙ ap₂ (λ r k. portionThen n line (portionOf r k)) (drop-drop n read s) left
       in
-      let text : take written′ out′ ++ u ≡ take written out ++ (lineOf (take n f) ++ u) =
-      ap (λ x. x ++ u) (wrote-front out out′ _ written written′ w)
-      ∙ append-assoc (take written out) (lineOf (take (read + n - read) f)) u
-      ∙ ap (λ k. take written out ++ (lineOf (take k f) ++ u)) same
-      in
-      subst (Writes (s ++ t)) (sym text) (so-far t (lineOf (take n f) ++ u) from-here)
+      let far : read + (n + p .read) ≡ read + n + p .read = omega arith in
+      so-far
+      ∙ ap (portionThen read (take written out)) next
+      ∙ ap₂ (λ k t. record { read = k; text = t }) far (sym (append-assoc (take written out) line (p .text)) ∙ ap (λ t. t ++ p .text) (sym text))
 
   pub rest-kept : (before : List ℕ) → drop written out ≡ drop written before → drop written′ out′ ≡ drop written′ before
   rest-kept before e =
@@ -46,3 +66,37 @@ module _ (s out out′ : List ℕ) (read written written′ size n : ℕ) (here 
 -- The record lies within the buffer.
 pub read-inside : (s : List ℕ) (read size n : ℕ) → Next s read size n → read ≤ length s → read + n ≤ length s
 read-inside s read size n here h = omega (arith, here .all-there, length-drop read s)
+
+-- Where no record is next, nothing more is taken.
+nothing-next : (s : List ℕ) (at size : ℕ) → nextOf s at size ≡ 0 → portionOf (drop at s) size ≡ noPortion
+unfolding nextOf
+nothing-next s at size e =
+    by-bool (framed (drop at s))
+    (λ f.
+    by-order size 64
+    (portion-full (framing (drop at s) .records) size)
+    (λ room.
+    let found : nextOf s at size ≡ lengthField (drop at s) = simp (le-leb 64 size room, f) in
+    absurd (omega (arith, found, some-bytes (drop at s) f))))
+    (portion-none (drop at s) size)
+
+module _ (s out before : List ℕ) (read written : ℕ) (so-far : SoFar s (length before) read out written)
+    (no-more : nextOf s read (length before - written) ≡ 0) where
+  all-taken : portionOf s (length before) ≡ record { read = read; text = take written out }
+  all-taken =
+      let none : read + 0 ≡ read = omega arith in
+      so-far
+      ∙ ap (portionThen read (take written out)) (nothing-next s read (length before - written) no-more)
+      ∙ ap₂ (λ n t. record { read = n; text = t }) none (append-nil (take written out))
+
+  pub progress-is : written ≤ length out → record { read = read; written = written } ≡ progressOf (portionOf s (length before))
+  progress-is h =
+      sym (ap progressOf all-taken ∙ ap (λ n. record { read = read; written = n }) (length-take-le written out h))
+
+  pub output-is : written ≤ length out → drop written out ≡ drop written before → out ≡ linesInto (portionOf s (length before)) before
+  output-is h rest =
+      sym
+      (ap (λ p. linesInto p before) all-taken
+      ∙ ap (λ n. take written out ++ drop n before) (length-take-le written out h)
+      ∙ ap (λ t. take written out ++ t) (sym rest)
+      ∙ take-append-drop written out)

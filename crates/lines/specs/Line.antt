@@ -23,14 +23,18 @@ letter system = cond (eqb system 1) 71 74 ∷ []
 abbrev pub star : ℕ → List ℕ
 star leap = cond (eqb leap 0) [] (42 ∷ [])
 
--- A date by its stored record: letter, year, month, with '*' after it if leap, and day.
-abbrev pub dateText : List ℕ → List ℕ
-dateText s =
-    letter (systemOf s) ++ (field (yearField s) ++ (field (monthField s) ++ (star (leapField s) ++ field (dayField s))))
+-- A date: letter, year, month, with '*' after it if leap, and day.
+abbrev pub dateText : ℕ → ℕ → ℕ → ℕ → ℕ → List ℕ
+dateText system year month leap day =
+    letter system ++ (field year ++ (field month ++ (star leap ++ field day)))
 
 -- The date, the register day and its name.
 abbrev pub dayLine : List ℕ → ℕ → List ℕ
-dayLine s r = dateText s ++ (field r ++ (field (nameOf r) ++ newline))
+dayLine date r = date ++ (field r ++ (field (nameOf r) ++ newline))
+
+-- The date of a stored record.
+abbrev pub storedDate : List ℕ → List ℕ
+storedDate s = dateText (systemOf s) (yearField s) (monthField s) (leapField s) (dayField s)
 
 -- "refused" and the number.
 abbrev pub refusedLine : ℕ → List ℕ
@@ -39,4 +43,4 @@ refusedLine number = (114 ∷ 101 ∷ 102 ∷ 117 ∷ 115 ∷ 101 ∷ 100 ∷ []
 -- The line of a record.
 unfoldable pub lineOf : List ℕ → List ℕ
 lineOf s =
-    let j = judgeOf s in cond (eqb (j .refusal) 0) (dayLine (j .stored) (j .day .0)) (refusedLine (j .refusal))
+    let j = judgeOf s in cond (eqb (j .refusal) 0) (dayLine (storedDate (j .stored)) (j .day .0)) (refusedLine (j .refusal))

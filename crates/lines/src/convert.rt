@@ -14,7 +14,7 @@ pub struct Progress {
 }
 
 // The input starts with a length field that no record has.
-pub fn starts_badly(s: &[u8]) -> bool
+pub fn is_misframed(s: &[u8]) -> bool
     ensures { λ r. ⌜ r ≡ misframed (now (s .entry)) ⌝ }
 {
     if s.len() < 2 {

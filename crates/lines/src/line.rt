@@ -4,7 +4,7 @@ ghost use Prim.Native.Nat.{_+_, _≤_};
 ghost use mathlib.Core.Bool.{cond};
 ghost use lib.Dec.{eqb};
 ghost use lib.ListN.{length};
-ghost use Rattle.lines.specs.Line.{dateText, dayLine, refusedLine, lineOf};
+ghost use Rattle.lines.specs.Line.{storedDate, dayLine, refusedLine, lineOf};
 ghost use Rattle.lines.specs.Wrote.{Wrote};
 ghost use Rattle.citation.proofs.SmallFields.{SmallFields};
 use crate::put::below_100;
@@ -34,7 +34,7 @@ fn stars(leap: u8) -> usize
 // A date by the fields of its stored record.
 fn put_date(out: &mut [u8], start: usize, stored: [u8; 10]) -> usize
     requires { ⌜ (start + 48 ≤ length (now out)) × SmallFields stored ⌝ }
-    ensures { λ r. ⌜ Wrote (now (out .entry)) start (dateText stored) (now (out .exit)) r × (r ≤ start + 36) ⌝ }
+    ensures { λ r. ⌜ Wrote (now (out .entry)) start (storedDate stored) (now (out .exit)) r × (r ≤ start + 36) ⌝ }
 {
     let year = wide(stored[5]) + 256 * wide(stored[6]);
     let at = byte(out, start, letter(stored[4]));
@@ -47,7 +47,7 @@ fn put_date(out: &mut [u8], start: usize, stored: [u8; 10]) -> usize
 // The line of a day.
 fn put_day(out: &mut [u8], start: usize, stored: [u8; 10], day: RegisterDay) -> usize
     requires { ⌜ (start + 64 ≤ length (now out)) × SmallFields stored ⌝ }
-    ensures { λ r. ⌜ Wrote (now (out .entry)) start (dayLine stored (day .0)) (now (out .exit)) r × (r ≤ start + 64) ⌝ }
+    ensures { λ r. ⌜ Wrote (now (out .entry)) start (dayLine (storedDate stored) (day .0)) (now (out .exit)) r × (r ≤ start + 64) ⌝ }
 {
     let at = put_date(out, start, stored);
     let at = field(out, at, day.0);

@@ -4,7 +4,7 @@ use native.Mathlib.Omega.{arith}
 use lib.ListN.{length, drop}
 use Rattle.lines.specs.Program.{nextOf}
 use Rattle.lines.proofs.Framing.{next-is}
-use Rattle.lines.proofs.Turn.{SoFar, one-more, rest-kept, read-inside}
+use Rattle.lines.proofs.Turn.{SoFar, so-far-starts, one-more, rest-kept, read-inside, progress-is, output-is}
 use Rattle.lines.proofs.convert.convert.Statement.{statement}
 use Rattle.lines.proofs.convert.convert.Tie as tie
 
@@ -14,7 +14,7 @@ Inv-loop input out₀ read₀ written₀ n₀ out read written n =
     × (written ≤ length out)
     × (length out ≡ length out₀)
     × (n ≡ nextOf input read (length out₀ - written))
-    × SoFar input read out written
+    × SoFar input (length out₀) read out written
     × (drop written out ≡ drop written out₀)
 
 abbrev μ-loop : tie.MeasureT-loop
@@ -24,7 +24,11 @@ next-requires : tie.Need-next-requires Inv-loop μ-loop
 next-requires c κs = omega arith
 
 loop-holds : tie.Need-loop-holds Inv-loop μ-loop
-loop-holds c = let all : length (c .before .before .before .args .out .now) ≡ length (c .before .before .before .args .out .now) - 0 = omega arith in (omega arith, omega arith, refl, c .next .ensures ∙ ap (nextOf (c .before .before .before .args .input .now) 0) all, λ t u w. w, refl)
+loop-holds c =
+    let input = c .before .before .before .args .input .now in
+    let out = c .before .before .before .args .out .now in
+    let all : length out ≡ length out - 0 = omega arith in
+    (omega arith, omega arith, refl, c .next .ensures ∙ ap (nextOf input 0) all, so-far-starts input (length out) out, refl)
 
 add-end : tie.Need-add-end Inv-loop μ-loop
 add-end c = let here = next-is _ _ _ _ (c .before .loop .inv .3) (c .loop-test .taken) in omega (arith, read-inside _ _ _ _ here (c .before .loop .inv .0))
@@ -57,7 +61,19 @@ same-length : tie.Need-same-length Inv-loop μ-loop
 same-length c = c .before .loop .inv .2
 
 returns : tie.Need-returns Inv-loop μ-loop
-returns c = let inv = c .before .loop .inv in record { read-within = inv .0; written-within = inv .1; same-length = inv .2; lines = inv .4; rest-left = inv .5; no-more = sym (inv .3) ∙ c .loop-test .left }
+returns c =
+    let loop = c .before .loop in
+    let inv = loop .inv in
+    let input = c .before .before .before .before .before .args .input .now in
+    let before = c .before .before .before .before .before .args .out .now in
+    let no-more = sym (inv .3) ∙ c .loop-test .left in
+    record {
+      progress = progress-is input (loop .out) before (loop .read) (loop .written) (inv .4) no-more (inv .1);
+      output = output-is input (loop .out) before (loop .read) (loop .written) (inv .4) no-more (inv .1) (inv .5);
+      read-within = inv .0;
+      written-within = inv .1;
+      same-length = inv .2;
+    }
 
 pub convert-spec : {M : Type 1} → statement M
 convert-spec =

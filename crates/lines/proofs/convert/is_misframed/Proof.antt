@@ -3,8 +3,8 @@ use Prim.Native.Nat.{_+_, _*_}
 use borrow.Author.Tests.{lt-leb, le-leb}
 use Rattle.reckoning.specs.Refusal.{outside}
 use borrow.Author.Needs.{needs}
-use Rattle.lines.proofs.convert.starts_badly.Statement.{statement}
-use Rattle.lines.proofs.convert.starts_badly.Tie as tie
+use Rattle.lines.proofs.convert.is_misframed.Statement.{statement}
+use Rattle.lines.proofs.convert.is_misframed.Tie as tie
 
 returns : tie.Need-returns
 returns c = simp (lt-leb _ _ (c .if1 .taken))
@@ -33,8 +33,8 @@ outside-requires c κs = search needs
 returns-2 : tie.Need-returns-2
 returns-2 c = simp (le-leb _ _ (c .before .before .before .before .before .if1 .left)) (c .outside .ensures ∙ ap (outside 4 64) (ap₂ (λ a b. a + 256 * b) (c .before .before .before .wide .ensures .0) (c .before .wide2 .ensures .0)))
 
-pub starts-badly-spec : {M : Type 1} → statement M
-starts-badly-spec =
+pub is-misframed-spec : {M : Type 1} → statement M
+is-misframed-spec =
     tie.close
     (tie.spec
     returns

@@ -1,0 +1,2 @@
+-- Bytes moved to the front of their buffer.
+pub mod Moving

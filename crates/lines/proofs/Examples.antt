@@ -1,0 +1,30 @@
+-- The run that paper 01 shows, computed: the four records of case 9 and a byte 00.
+use mathlib.Core.Path.{_≡_, refl}
+use mathlib.Core.List.{List, [], _∷_, _++_}
+use Prim.Native.Nat.{ℕ}
+use Rattle.reckoning.specs.Refusal.{yearRefusal}
+use Rattle.reckoning.specs.Requests.{daysOf, monthOf, monthIn, dateOf, dateIn}
+use Rattle.citation.specs.Store.{judgeRegisterDay, judgeOrdinal, judgeDay, judgeName, judgeKind, judgeOf}
+use Rattle.lines.specs.Decimal.{decimal}
+use Rattle.lines.specs.Line.{lineOf}
+use Rattle.lines.specs.Program.{framingWithin, linesOf, outputOf}
+
+abbrev pub case-9 : List ℕ
+case-9 =
+    (0x0A ∷ 0x00 ∷ 0x01 ∷ 0x00 ∷ 0x01 ∷ 0x46 ∷ 0x04 ∷ 0x05 ∷ 0x01 ∷ 0x01 ∷ [])
+    ++ (0x0A ∷ 0x00 ∷ 0x02 ∷ 0x00 ∷ 0x01 ∷ 0x46 ∷ 0x04 ∷ 0x05 ∷ 0x01 ∷ 0x25 ∷ [])
+    ++ (0x09 ∷ 0x00 ∷ 0x03 ∷ 0x00 ∷ 0x01 ∷ 0x46 ∷ 0x04 ∷ 0xD0 ∷ 0x00 ∷ [])
+    ++ (0x09 ∷ 0x00 ∷ 0x04 ∷ 0x00 ∷ 0x01 ∷ 0x68 ∷ 0x5C ∷ 0x20 ∷ 0x00 ∷ [])
+
+-- "G 1094 5* 1 2120808 37"
+abbrev pub day-line : List ℕ
+day-line =
+    71 ∷ 32 ∷ 49 ∷ 48 ∷ 57 ∷ 52 ∷ 32 ∷ 53 ∷ 42 ∷ 32 ∷ 49 ∷ 32 ∷ 50 ∷ 49 ∷ 50 ∷ 48 ∷ 56 ∷ 48 ∷ 56 ∷ 32 ∷ 51 ∷ 55 ∷ 10 ∷ []
+
+-- "refused 1"
+abbrev pub last-line : List ℕ
+last-line = 114 ∷ 101 ∷ 102 ∷ 117 ∷ 115 ∷ 101 ∷ 100 ∷ 32 ∷ 49 ∷ 10 ∷ []
+
+pub shown-run : outputOf (case-9 ++ 0x00 ∷ []) ≡ day-line ++ day-line ++ day-line ++ day-line ++ last-line
+unfolding framingWithin linesOf lineOf decimal judgeOf judgeKind judgeDay judgeName judgeOrdinal judgeRegisterDay yearRefusal daysOf monthOf monthIn dateOf dateIn
+shown-run = refl

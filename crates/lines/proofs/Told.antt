@@ -1,0 +1,45 @@
+-- The line of a record, by the reckoning: the date and the day that an accepted citation names, or its refusal.
+use Prim.Native.Nat.{ℕ, _+_, _*_, _/_, _%_, _<_}
+use mathlib.Core.Path.{_≡_, refl, subst, ap, ap₂, sym, _∙_}
+use mathlib.Core.List.{List, [], _∷_, _++_}
+use native.Mathlib.Omega.{arith}
+use Rattle.reckoning.specs.Rows.{FirstOf}
+use Rattle.citation.specs.Record.{systemOf, recordOf}
+use Rattle.citation.specs.Named.{Names, OnDate}
+use Rattle.citation.specs.Refused.{citationRows, Accepted}
+use Rattle.citation.specs.Store.{judgeOf}
+use Rattle.citation.proofs.Rows.{first-unique}
+use Rattle.citation.proofs.OneDay.{names-unique}
+use Rattle.citation.proofs.OneDate.{record-unique}
+use Rattle.citation.proofs.Judged.{Judged, Kept}
+use Rattle.citation.proofs.Refusals.{judged}
+use Rattle.citation.proofs.Canonical.{passed}
+use Rattle.lines.specs.Line.{dateText, storedDate, dayLine, refusedLine, lineOf}
+use Rattle.lines.proofs.Lines.{line-refused, line-accepted}
+
+-- A stored record is told as its date.
+told-date : (system year month leap day : ℕ) → storedDate (recordOf system year month leap day) ≡ dateText system year month leap day
+told-date system year month leap day =
+    let whole : year % 256 + 256 * (year / 256) ≡ year = omega arith in ap (λ y. dateText system y month leap day) whole
+
+pub line-of-day : (s : List ℕ) → Accepted s → (r year month leap day : ℕ) → Names s r → OnDate (systemOf s) r year month leap day
+    → lineOf s ≡ dayLine (dateText (systemOf s) year month leap day) r
+line-of-day s a r year month leap day names date =
+    let j = judgeOf s in
+    let κ = passed s a .kept in
+    let same : j .day .0 ≡ r = names-unique s (j .day .0) r (κ .names) names in
+    let kept = subst (λ x. OnDate (systemOf s) x (κ .year) (κ .month) (κ .leap) (κ .day)) same (κ .dated) in
+    let stored : j .stored ≡ recordOf (systemOf s) year month leap day =
+    κ .stored ∙ record-unique (systemOf s) r _ _ _ _ _ _ _ _ kept date
+    in
+    sym (line-accepted s j refl (passed s a .no-refusal))
+    ∙ ap₂ dayLine (ap storedDate stored ∙ told-date (systemOf s) year month leap day) same
+
+pub line-of-refusal : (s : List ℕ) (number : ℕ) → 0 < number → FirstOf (citationRows s) number → lineOf s ≡ refusedLine number
+line-of-refusal s number some first = go (judged s)
+  where
+    go : Judged (citationRows s) s (judgeOf s) → lineOf s ≡ refusedLine number
+    go (Judged.refused given more e rows) =
+        let same : (judgeOf s) .refusal ≡ number = ap (λ j. j .refusal) e ∙ first-unique (citationRows s) given number rows first in
+        sym (line-refused s (judgeOf s) refl (λ z. omega arith)) ∙ ap refusedLine same
+    go (Judged.accepted z rows kept) = absurd (omega (arith, first-unique (citationRows s) number 0 first rows))
