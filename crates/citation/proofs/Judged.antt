@@ -17,9 +17,9 @@ use Rattle.calendar.proofs.Spans.{span-first, span-next}
 use Rattle.reckoning.specs.declared.data.Month.{Month}
 use Rattle.reckoning.specs.declared.data.Days.{Days}
 use Rattle.reckoning.specs.declared.data.Date.{Date}
-use Rattle.reckoning.specs.Scope.{InScope}
+use Rattle.reckoning.specs.Scope.{InScope, DayInScope}
 use Rattle.reckoning.specs.Requests.{daysOf, monthOf, dateOf}
-use Rattle.reckoning.specs.Outcomes.{MonthFound, MonthOutcome, DaysOutcome, DateFound, DateOutcome, DayInScope}
+use Rattle.reckoning.specs.Outcomes.{MonthFound, MonthOutcome, DaysOutcome, DateFound, DateOutcome}
 use Rattle.reckoning.proofs.Refusals.{by-inside}
 use Rattle.reckoning.proofs.Outcomes.{days-outcome, month-outcome, date-outcome, year-day-in-scope}
 use Rattle.citation.specs.declared.judge.Judgement.{Judgement}

@@ -6,11 +6,11 @@ use mathlib.Core.List.{List}
 use native.Mathlib.Omega.{arith}
 use Rattle.calendar.specs.declared.data.Constants.{Constants}
 use Rattle.calendar.specs.Consistent.{Consistent}
-use Rattle.calendar.specs.Inside.{Inside}
 use Rattle.calendar.specs.Systems.{constantsOf, yearsElapsed}
 use Rattle.calendar.specs.Year.{MonthNamed}
 use Rattle.calendar.proofs.EachSystem.{consistent}
 use Rattle.calendar.proofs.Laws.{number-inside, mark-inside}
+use Rattle.reckoning.specs.Scope.{YearInScope}
 use Rattle.citation.specs.Record.{yearField, recordOf}
 use Rattle.citation.specs.Named.{elapsedIn, CitedMonth, Names, OnDate}
 use Rattle.citation.specs.Refused.{TooShort, WrongKind, WrongLength, WrongSystem, WrongYear, WrongMonth, Placed, NotPlaced, Accepted}
@@ -45,7 +45,7 @@ module _ (system r year month leap day : ℕ) (d : OnDate system r year month le
   system-right w = w (d .in-scope .system-inside)
 
   year-right : WrongYear rec → ⊥
-  year-right w = w .1 (subst (Inside 1 3000) (sym year-read) (d .in-scope .year-inside))
+  year-right w = w .1 (subst YearInScope (sym year-read) (d .in-scope .year-inside))
 
   month-right : WrongMonth rec → ⊥
   month-right w =

@@ -1,15 +1,14 @@
 -- Numbered refusals: paper 01's table, a definition a row, in its order.
 use Prim.Native.Nat.{ℕ, _+_, _≤_, _<_}
 use mathlib.Core.Path.{_≡_}
-use mathlib.Core.Logic.{_⊎_}
 use mathlib.Core.List.{List, [], _∷_, _++_}
 use lib.ListN.{length}
 use Rattle.calendar.specs.Inside.{Inside}
 use Rattle.calendar.specs.Name.{nameOf}
 use Rattle.calendar.specs.Month.{InMonth, monthLength}
-use Rattle.calendar.specs.Year.{Span, yearLength, HasLeap}
+use Rattle.calendar.specs.Year.{Span, yearLength}
 use Rattle.reckoning.specs.Rows.{Row, _when_, FirstOf}
-use Rattle.reckoning.specs.Outcomes.{DayInScope}
+use Rattle.reckoning.specs.Scope.{SystemInScope, YearInScope, NoSuchMonth, DayInScope}
 use Rattle.citation.specs.Record.{lengthField, kindOf, systemOf, kindLength, yearField, monthField, leapField, dayField, nameField, ordinalField, registerDayField}
 use Rattle.citation.specs.Named.{constantsIn, elapsedIn, CitedMonth}
 
@@ -27,18 +26,15 @@ WrongLength s = (lengthField s ≡ kindLength (kindOf s)) × (length s ≡ lengt
 
 -- Row 4: a system that there is not.
 abbrev pub WrongSystem : List ℕ → Type 0
-WrongSystem s = Inside 1 2 (systemOf s) → ⊥
+WrongSystem s = SystemInScope (systemOf s) → ⊥
 
 -- Row 5: a year out of scope, in the kinds that have one.
 abbrev pub WrongYear : List ℕ → Type 0
-WrongYear s = (kindOf s ≤ 3) × (Inside 1 3000 (yearField s) → ⊥)
+WrongYear s = (kindOf s ≤ 3) × (YearInScope (yearField s) → ⊥)
 
--- Row 6: a month number or leap mark that there is not, or a leap mark on a month that has no leap one in that year; in
--- the kinds that have a month.
+-- Row 6: a month that there is not, in the kinds that have one.
 abbrev pub WrongMonth : List ℕ → Type 0
-WrongMonth s =
-    (kindOf s ≤ 2)
-    × ((Inside 1 12 (monthField s) → ⊥) ⊎ ((Inside 0 1 (leapField s) → ⊥) ⊎ ((leapField s ≡ 1) × (HasLeap (constantsIn s) (elapsedIn s) (monthField s) → ⊥))))
+WrongMonth s = (kindOf s ≤ 2) × NoSuchMonth (constantsIn s) (elapsedIn s) (monthField s) (leapField s)
 
 -- What is cited exists: the month has the day, or a day of the name; the year has the ordinal; the register day lies in
 -- years 1 to 3000.

@@ -29,6 +29,9 @@ module _ (c : Constants) (room : Room c) where
   abbrev K : Calendar
   K = reckoned c (room .consistent)
 
+  epoch : c .common ≤ c .elapsed
+  epoch = room .consistent .epoch-before
+
   dated-here : (d : ℕ) → d < 2 ^ 36 → Dated c d (monthOfDay c d)
   dated-here d h =
       let k = monthOfDay c d in
@@ -60,20 +63,20 @@ module _ (c : Constants) (room : Room c) where
 
     pub too-early : n + c .common ≤ c .elapsed → dayWrong c r ≡ true
     too-early h =
-        simp (lt-ltb (r + c .anchor) (headOfYear c (yearsElapsed c 1)) (before-head (yearsElapsed c 1) (omega (arith, room .common-small))))
+        simp (lt-ltb (r + c .anchor) (headOfYear c (yearsElapsed c 1)) (before-head (yearsElapsed c 1) (omega (arith, epoch))))
 
     pub too-late : c .elapsed + 3000 < n + c .common → dayWrong c r ≡ true
     too-late h =
         simp (
-          le-ltb (r + c .anchor) (headOfYear c (yearsElapsed c 1)) (from-head (yearsElapsed c 1) (omega (arith, room .common-small))),
-          le-leb (headOfYear c (yearsElapsed c 3001)) (r + c .anchor) (from-head (yearsElapsed c 3001) (omega (arith, room .common-small))),
+          le-ltb (r + c .anchor) (headOfYear c (yearsElapsed c 1)) (from-head (yearsElapsed c 1) (omega (arith, epoch))),
+          le-leb (headOfYear c (yearsElapsed c 3001)) (r + c .anchor) (from-head (yearsElapsed c 3001) (omega (arith, epoch))),
         )
 
     pub in-time : c .elapsed < n + c .common → n + c .common ≤ c .elapsed + 3000 → dayWrong c r ≡ false
     in-time a b =
         simp (
-          le-ltb (r + c .anchor) (headOfYear c (yearsElapsed c 1)) (from-head (yearsElapsed c 1) (omega (arith, room .common-small))),
-          lt-leb (headOfYear c (yearsElapsed c 3001)) (r + c .anchor) (before-head (yearsElapsed c 3001) (omega (arith, room .common-small))),
+          le-ltb (r + c .anchor) (headOfYear c (yearsElapsed c 1)) (from-head (yearsElapsed c 1) (omega (arith, epoch))),
+          lt-leb (headOfYear c (yearsElapsed c 3001)) (r + c .anchor) (before-head (yearsElapsed c 3001) (omega (arith, epoch))),
         )
 
 -- The three cases of the request, by the day's year.

@@ -17,12 +17,12 @@ use Rattle.calendar.proofs.Reckoned.{reckoned}
 use Rattle.calendar.proofs.Spans.{span, span-first, span-next, in-year, within}
 use Rattle.calendar.proofs.Months.{in-its-year, years-rise, year-from, year-before}
 use Rattle.calendar.proofs.Laws.{named, leap-follows, ordinary-cited, leap-cited}
-use Rattle.reckoning.specs.Scope.{InScope}
+use Rattle.reckoning.specs.Scope.{SystemInScope, InScope, DayInScope}
 use Rattle.reckoning.specs.Refusal.{yearRefusal, dayWrong}
 use Rattle.reckoning.specs.Requests.{daysIn, noDays, daysOf, monthAt, noMonth, monthIn, monthOf, dateAt, dateIn, dateOf}
 use Rattle.reckoning.specs.Outcomes as O
 use Rattle.reckoning.proofs.Refusals.{by-inside, by-scope}
-use Rattle.reckoning.proofs.Scope.{room, reach}
+use Rattle.reckoning.proofs.Scope.{reach}
 use Rattle.reckoning.proofs.Answers.{refused-year, answered-year}
 use Rattle.reckoning.proofs.InReach.{first-head, next-head}
 use Rattle.reckoning.proofs.Cited.{number-wrong, mark-wrong, ordinary-month, leap-month, leap-lacks}
@@ -123,7 +123,7 @@ neither a b c d e = go (ltb a b) (leb c d) refl refl e
     go false false p q f = (ltb-false a b p, leb-false c d q)
 
 -- A register day is one of years 1 to 3000, or refused.
-scope-day-right : (system r : ℕ) → O.DayInScope system r → dayWrong (constantsOf system) r ≡ false
+scope-day-right : (system r : ℕ) → DayInScope system r → dayWrong (constantsOf system) r ≡ false
 scope-day-right system r p =
     let c = constantsOf system in
     let ok = consistent system in
@@ -135,8 +135,8 @@ scope-day-right system r p =
     )
 
 by-day-scope : {P : Type 0} (system r : ℕ)
-    → (dayWrong (constantsOf system) r ≡ true → (O.DayInScope system r → ⊥) → P)
-    → (dayWrong (constantsOf system) r ≡ false → O.DayInScope system r → P)
+    → (dayWrong (constantsOf system) r ≡ true → (DayInScope system r → ⊥) → P)
+    → (dayWrong (constantsOf system) r ≡ false → DayInScope system r → P)
     → P
 by-day-scope system r out into =
     let c = constantsOf system in
@@ -148,7 +148,7 @@ by-day-scope system r out into =
     into e (record { first = span c ok (yearsElapsed c 1); past = span c ok (yearsElapsed c 3001); from = bounds .0; before = bounds .1 }))
 
 -- The date of a day in scope, by the closed forms.
-found-date : (system r : ℕ) → Inside 1 2 system → O.DayInScope system r → O.DateOutcome system r (dateAt (constantsOf system) (r + constantsOf system .anchor))
+found-date : (system r : ℕ) → SystemInScope system → DayInScope system r → O.DateOutcome system r (dateAt (constantsOf system) (r + constantsOf system .anchor))
 found-date system r system-inside p =
     let c = constantsOf system in
     let ok = consistent system in
@@ -158,7 +158,7 @@ found-date system r system-inside p =
     let n = yearOfMonth c k in
     let early = year-from K (yearsElapsed c 1) d (omega (arith, p .from, ap (monthHead c) (span-first c ok (p .first)))) in
     let late = year-before K (yearsElapsed c 3001) d (omega (arith, p .before, ap (monthHead c) (span-first c ok (p .past)))) in
-    let epoch = (room system) .common-small in
+    let epoch = ok .epoch-before in
     let year = n + c .common - c .elapsed in
     let same : n ≡ yearsElapsed c year = omega arith in
     O.DateOutcome.found
@@ -187,7 +187,7 @@ pub year-day-in-scope : (system year r : ℕ) → InScope system year
     → (y : Span (constantsOf system) (yearsElapsed (constantsOf system) year))
     → yearHead y ≤ r + constantsOf system .anchor
     → r + constantsOf system .anchor < nextHead y
-    → O.DayInScope system r
+    → DayInScope system r
 year-day-in-scope system year r i y a b =
     let c = constantsOf system in
     let ok = consistent system in

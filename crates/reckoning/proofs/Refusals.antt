@@ -6,7 +6,7 @@ use lib.Dec.{ltb}
 use native.Mathlib.Omega.{arith}
 use borrow.Author.Tests.{ltb-false, lt-ltb, le-ltb}
 use Rattle.calendar.specs.Inside.{Inside}
-use Rattle.reckoning.specs.Scope.{InScope}
+use Rattle.reckoning.specs.Scope.{SystemInScope, YearInScope, InScope}
 use Rattle.reckoning.specs.Refusal.{outside, yearRefusal, qiRefusal}
 
 -- Where no rule gave a number, the first did not apply, nor did any other.
@@ -52,8 +52,8 @@ by-inside {P} least most x out into = go (outside least most x) refl
 
 -- A request by system and year is refused 4, refused 5, or in scope.
 pub by-scope : {P : Type 0} (system year : ℕ)
-    → ((Inside 1 2 system → ⊥) → yearRefusal system year ≡ 4 → P)
-    → (Inside 1 2 system → (Inside 1 3000 year → ⊥) → yearRefusal system year ≡ 5 → P)
+    → ((SystemInScope system → ⊥) → yearRefusal system year ≡ 4 → P)
+    → (SystemInScope system → (YearInScope year → ⊥) → yearRefusal system year ≡ 5 → P)
     → (InScope system year → P)
     → P
 unfolding yearRefusal

@@ -4,10 +4,10 @@ use native.Mathlib.Omega.{arith}
 use Rattle.calendar.specs.Systems.{constantsOf, yearsElapsed}
 use Rattle.calendar.proofs.EachSystem.{each-system}
 use Rattle.reckoning.specs.Room.{Room, Reach}
-use Rattle.calendar.specs.Inside.{Inside}
+use Rattle.reckoning.specs.Scope.{YearInScope}
 
 pub room : (system : ℕ) → Room (constantsOf system)
 room = each-system Room (omega arith) (omega arith)
 
-pub reach : (system year : ℕ) → Inside 1 3000 year → Reach (constantsOf system) (yearsElapsed (constantsOf system) year)
+pub reach : (system year : ℕ) → YearInScope year → Reach (constantsOf system) (yearsElapsed (constantsOf system) year)
 reach system year h = each-system (λ c. Reach c (yearsElapsed c year)) (omega arith) (omega arith) system

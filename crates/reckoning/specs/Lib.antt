@@ -1,11 +1,11 @@
 -- What the requests promise, for every input.
--- The systems and years in scope.
+-- What is in scope: systems, years, months and days.
 pub mod Scope
 -- Numbered refusals: the first rule that applies.
 pub mod Refusal
 -- Tables of refusals in words.
 pub mod Rows
--- What a request stands on, and how its answer follows.
+-- What a request by system and year stands on.
 pub mod Asked
 -- What each request answers.
 pub mod Requests

@@ -1,15 +1,14 @@
 -- How a request for a year's days, for one month or for a date can end, in the paper's words.
-use Prim.Native.Nat.{ℕ, _+_, _-_, _≤_, _<_}
+use Prim.Native.Nat.{ℕ, _+_, _-_}
 use mathlib.Core.Path.{_≡_}
-use mathlib.Core.Logic.{_⊎_}
 use Rattle.calendar.specs.Inside.{Inside}
 use Rattle.calendar.specs.Systems.{constantsOf, yearsElapsed}
 use Rattle.calendar.specs.Month.{monthHead, InMonth, monthLength}
-use Rattle.calendar.specs.Year.{Span, yearHead, yearLength, MonthNamed, HasLeap}
+use Rattle.calendar.specs.Year.{Span, yearHead, yearLength, MonthNamed}
 use Rattle.reckoning.specs.declared.data.Days.{Days}
 use Rattle.reckoning.specs.declared.data.Month.{Month}
 use Rattle.reckoning.specs.declared.data.Date.{Date}
-use Rattle.reckoning.specs.Scope.{InScope}
+use Rattle.reckoning.specs.Scope.{SystemInScope, YearInScope, InScope, NoSuchMonth, DayInScope}
 use Rattle.reckoning.specs.Requests.{noDays, noMonth, noDate}
 
 -- The days of a year, answered: its head and its length.
@@ -22,8 +21,8 @@ pub record DaysFound (system year : ℕ) (v : Days) : Type 0 where
 
 -- Refused 4, then 5; or answered.
 pub data DaysOutcome (system year : ℕ) (v : Days) : Type 0 where
-  system-refused : (Inside 1 2 system → ⊥) → v ≡ noDays 4 → DaysOutcome system year v
-  year-refused : Inside 1 2 system → (Inside 1 3000 year → ⊥) → v ≡ noDays 5 → DaysOutcome system year v
+  system-refused : (SystemInScope system → ⊥) → v ≡ noDays 4 → DaysOutcome system year v
+  year-refused : SystemInScope system → (YearInScope year → ⊥) → v ≡ noDays 5 → DaysOutcome system year v
   found : DaysFound system year v → DaysOutcome system year v
 
 -- One month, answered: its head and its length.
@@ -39,21 +38,13 @@ pub record MonthFound (system year number leap : ℕ) (v : Month) : Type 0 where
 
 -- Refused 4, then 5, then 6; or answered.
 pub data MonthOutcome (system year number leap : ℕ) (v : Month) : Type 0 where
-  system-refused : (Inside 1 2 system → ⊥) → v ≡ noMonth 4 → MonthOutcome system year number leap v
-  year-refused : Inside 1 2 system → (Inside 1 3000 year → ⊥) → v ≡ noMonth 5 → MonthOutcome system year number leap v
+  system-refused : (SystemInScope system → ⊥) → v ≡ noMonth 4 → MonthOutcome system year number leap v
+  year-refused : SystemInScope system → (YearInScope year → ⊥) → v ≡ noMonth 5 → MonthOutcome system year number leap v
   month-refused : InScope system year
-      → (Inside 1 12 number → ⊥)
-      ⊎ ((Inside 0 1 leap → ⊥) ⊎ ((leap ≡ 1) × (HasLeap (constantsOf system) (yearsElapsed (constantsOf system) year) number → ⊥)))
+      → NoSuchMonth (constantsOf system) (yearsElapsed (constantsOf system) year) number leap
       → v ≡ noMonth 6
       → MonthOutcome system year number leap v
   found : MonthFound system year number leap v → MonthOutcome system year number leap v
-
--- The days of years 1 to 3000, by the heads of years 1 and 3001.
-pub record DayInScope (system r : ℕ) : Type 0 where
-  pub first : Span (constantsOf system) (yearsElapsed (constantsOf system) 1)
-  pub past : Span (constantsOf system) (yearsElapsed (constantsOf system) 3001)
-  pub from : yearHead first ≤ r + constantsOf system .anchor
-  pub before : r + constantsOf system .anchor < yearHead past
 
 -- The date of a register day, answered: a year in scope, the month that has the day, by number and leap mark, and the
 -- day's place in it.
@@ -68,6 +59,6 @@ pub record DateFound (system r : ℕ) (v : Date) : Type 0 where
 
 -- Refused 4, then 7; or answered.
 pub data DateOutcome (system r : ℕ) (v : Date) : Type 0 where
-  system-refused : (Inside 1 2 system → ⊥) → v ≡ noDate 4 → DateOutcome system r v
-  day-refused : Inside 1 2 system → (DayInScope system r → ⊥) → v ≡ noDate 7 → DateOutcome system r v
+  system-refused : (SystemInScope system → ⊥) → v ≡ noDate 4 → DateOutcome system r v
+  day-refused : SystemInScope system → (DayInScope system r → ⊥) → v ≡ noDate 7 → DateOutcome system r v
   found : DateFound system r v → DateOutcome system r v

@@ -19,7 +19,6 @@ pub record Room (c : Constants) : Type 0 where
   pub years : 2 ^ 32 * c .year < 2 ^ 63
   pub year-units : c .year * c .units < 2 ^ 62
   pub elapsed-small : c .elapsed < 2 ^ 31
-  pub common-small : c .common ≤ c .elapsed
   pub anchor-small : c .anchor < 2 ^ 35
 
 -- Count day d has a register day of 32 bits, with room for a year's days after it.

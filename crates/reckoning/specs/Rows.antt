@@ -2,8 +2,8 @@
 use Prim.Native.Nat.{ℕ, _<_}
 use mathlib.Core.Path.{_≡_}
 use mathlib.Core.Logic.{_⊎_}
-use mathlib.Core.List.{List, [], _∷_}
-use Rattle.calendar.specs.Inside.{Inside}
+use mathlib.Core.List.{List, [], _∷_, _++_}
+use Rattle.reckoning.specs.Scope.{SystemInScope, YearInScope}
 
 infixl 80 _when_
 -- A row of the table: a refusal's number, and what makes it apply.
@@ -18,8 +18,8 @@ FirstOf ((refusal when applies) ∷ rows) number =
 
 -- A request by system and year: 4, then 5,
 abbrev pub yearRows : ℕ → ℕ → List Row
-yearRows system year = 4 when (Inside 1 2 system → ⊥) ∷ 5 when (Inside 1 3000 year → ⊥) ∷ []
+yearRows system year = 4 when (SystemInScope system → ⊥) ∷ 5 when (YearInScope year → ⊥) ∷ []
 
 -- and then 9 where a qi is asked.
 abbrev pub qiRows : ℕ → ℕ → ℕ → List Row
-qiRows system year i = 4 when (Inside 1 2 system → ⊥) ∷ 5 when (Inside 1 3000 year → ⊥) ∷ 9 when (23 < i) ∷ []
+qiRows system year i = yearRows system year ++ (9 when (23 < i) ∷ [])
