@@ -24,12 +24,12 @@ use Rattle.reckoning.specs.Held.{IsSolstice, IsQi, IsSheet}
 use Rattle.reckoning.proofs.MonthsHeld as MonthsHeld
 use Rattle.reckoning.proofs.AnswersHeld as AnswersHeld
 use Rattle.citation.specs.Record.{kindOf, systemOf, recordOf}
-use Rattle.citation.specs.Named.{Names, OnDate}
+use Rattle.citation.specs.Named.{Names, OnDate, Dated}
 use Rattle.citation.specs.Refused.{storingRows, Accepted}
 use Rattle.citation.specs.Store.{judgeOf, refusalOf, answerOf, storedInto}
 use Rattle.citation.proofs.OneDay.{names-unique}
 use Rattle.citation.proofs.OneDate.{record-unique}
-use Rattle.citation.proofs.StoredRecord.{record-accepted, record-names}
+use Rattle.citation.proofs.StoredRecord.{record-accepted, record-names, record-bytes}
 use Rattle.citation.proofs.Refusals as Refusals
 use Rattle.citation.proofs.Storing.{answer-refused, output-refused}
 use Rattle.citation.proofs.Canonical as Canonical
@@ -111,6 +111,19 @@ names-one-day s a =
       only = λ r m. names-unique s r ((judgeOf s) .day .0) m (Canonical.passed s a .kept .names);
     }
 
+-- which has a date in its system;
+pub has-its-date : (s : List ℕ) → Accepted s → (r : ℕ) → Names s r → Dated (systemOf s) r
+has-its-date s a r m =
+    let κ = Canonical.passed s a .kept in
+    let same = names-unique s ((judgeOf s) .day .0) r (κ .names) m in
+    record {
+      year = κ .year;
+      month = κ .month;
+      leap = κ .leap;
+      day = κ .day;
+      on = subst (λ x. OnDate (systemOf s) x (κ .year) (κ .month) (κ .leap) (κ .day)) same (κ .dated);
+    }
+
 -- stored in an output of ten bytes or more,
 module _ (s before : List ℕ) (a : Accepted s) (room : 10 ≤ length before) (r : ℕ) (m : Names s r) where
   same-day : (judgeOf s) .day .0 ≡ r
@@ -190,6 +203,7 @@ every-day-has-one-record system year d i y =
       day = r .0;
       is-day = r .1;
       it = recordOf system (x .year) (x .month) (x .leap) (x .day);
+      bytes = record-bytes system (r .0) _ _ _ _ (x .on);
       accepted = record-accepted system (r .0) _ _ _ _ (x .on);
       is-kind-one = refl;
       in-system = refl;

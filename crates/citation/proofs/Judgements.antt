@@ -8,7 +8,7 @@ use lib.ListN.{length}
 use Rattle.reckoning.proofs.Refusals.{inside-of}
 use Rattle.calendar.proofs.Rising.{by-order}
 use Rattle.citation.specs.Record.{lengthField, kindOf, systemOf, kindLength, yearField, monthField, leapField, dayField, nameField, ordinalField, registerDayField}
-use Rattle.citation.specs.Judged.{Whole}
+use Rattle.citation.specs.JudgeInputs.{Whole}
 use lib.Dec.{ltb, leb}
 use borrow.Author.Tests.{eq-eqb, ne-eqb, lt-ltb, le-ltb, le-leb, lt-leb}
 use Rattle.reckoning.specs.Refusal.{outside}

@@ -18,7 +18,7 @@ use Rattle.reckoning.proofs.InReach.{first-head}
 use Rattle.reckoning.proofs.Refusals.{by-inside}
 use Rattle.reckoning.proofs.Outcomes.{date-outcome, year-day-in-scope}
 use Rattle.citation.specs.Record.{byte, Bytes, lengthField, kindOf, kindLength, systemOf, yearField, monthField, leapField, dayField, recordOf}
-use Rattle.citation.specs.Named.{constantsIn, Names, OnDate}
+use Rattle.citation.specs.Named.{Dated, constantsIn, Names, OnDate}
 use Rattle.citation.specs.Refused.{Accepted, citationRows, WrongLength, WrongSystem, WrongYear, NotPlaced}
 use Rattle.citation.proofs.Rows.{none-applies}
 use Rattle.citation.proofs.Judged.{day-not-placed}
@@ -102,13 +102,6 @@ registered system year d i y =
     (registerDay c d, omega (arith, y .from, ap (monthHead c) (span-first c (consistent system) (y .span))))
 
 -- and a date.
-pub record Dated (system r : ℕ) : Type 0 where
-  pub year : ℕ
-  pub month : ℕ
-  pub leap : ℕ
-  pub day : ℕ
-  pub on : OnDate system r year month leap day
-
 pub dated : (system year r : ℕ) → InScope system year → DayOfYear (constantsOf system) (yearsElapsed (constantsOf system) year) (r + constantsOf system .anchor)
     → Dated system r
 dated system year r i d = go (dateOf system r) (date-outcome system r)

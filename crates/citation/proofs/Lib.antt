@@ -25,5 +25,5 @@ pub mod KindOne
 pub mod Demands
 -- The proved examples of paper 01.
 pub mod Examples
--- The month and the day of a stored record have two digits at most.
+-- A stored record's month and day have two digits at most.
 pub mod SmallFields

@@ -1,5 +1,5 @@
 -- The month and the day of a stored record have two digits at most.
-use Prim.Native.Nat.{ℕ, _<_}
+use Prim.Native.Nat.{ℕ}
 use mathlib.Core.Path.{_≡_, ap, _∙_}
 use mathlib.Core.List.{List}
 use native.Mathlib.Omega.{arith}
@@ -8,15 +8,12 @@ use Rattle.calendar.proofs.EachSystem.{consistent}
 use Rattle.calendar.proofs.Reckoned.{reckoned}
 use Rattle.calendar.proofs.Laws.{number-inside}
 use Rattle.citation.specs.Record.{systemOf, monthField, dayField}
+use Rattle.citation.specs.SmallFields.{SmallFields}
 use Rattle.citation.specs.Refused.{citationRows}
 use Rattle.citation.specs.Store.{judgeOf}
 use Rattle.citation.specs.declared.judge.Judgement.{Judgement}
 use Rattle.citation.proofs.Judged.{Judged}
 use Rattle.citation.proofs.Refusals.{judged}
-
-pub record SmallFields (t : List ℕ) : Type 0 where
-  pub month-small : monthField t < 100
-  pub day-small : dayField t < 100
 
 pub small-fields : (s : List ℕ) (j : Judgement) → j ≡ judgeOf s → j .refusal ≡ 0 → SmallFields (j .stored)
 small-fields s j e z = go (judged s)

@@ -1,19 +1,30 @@
 -- A stored record is itself a citation: of kind 1, accepted, and naming the same day in the same system.
-use Prim.Native.Nat.{ℕ}
+use Prim.Native.Nat.{ℕ, zero, suc, _<_}
 use mathlib.Core.Path.{_≡_, refl, subst, sym}
 use mathlib.Core.Logic.{_⊎_, inr, ⊎-elim}
-use mathlib.Core.List.{List}
+use mathlib.Core.List.{List, [], _∷_}
 use native.Mathlib.Omega.{arith}
 use Rattle.calendar.specs.declared.data.Constants.{Constants}
 use Rattle.calendar.specs.Consistent.{Consistent}
 use Rattle.calendar.specs.Systems.{constantsOf, yearsElapsed}
 use Rattle.calendar.specs.Year.{MonthNamed}
 use Rattle.calendar.proofs.EachSystem.{consistent}
+use Rattle.calendar.proofs.Reckoned.{reckoned}
 use Rattle.calendar.proofs.Laws.{number-inside, mark-inside}
 use Rattle.reckoning.specs.Scope.{YearInScope}
-use Rattle.citation.specs.Record.{yearField, recordOf}
+use Rattle.citation.specs.Record.{Bytes, yearField, recordOf}
 use Rattle.citation.specs.Named.{elapsedIn, CitedMonth, Names, OnDate}
 use Rattle.citation.specs.Refused.{TooShort, WrongKind, WrongLength, WrongSystem, WrongYear, WrongMonth, Placed, NotPlaced, Accepted}
+
+-- Bytes, one by one.
+abbrev EachByte : List ℕ → Type 0
+EachByte [] = Unit {0}
+EachByte (x ∷ t) = (x < 256) × EachByte t
+
+each-byte : (t : List ℕ) → EachByte t → Bytes t
+each-byte [] b i = omega arith
+each-byte (x ∷ t) b zero = b .0
+each-byte (x ∷ t) b (suc i) = each-byte t (b .1) i
 
 module _ (system r year month leap day : ℕ) (d : OnDate system r year month leap day) where
   abbrev c : Constants
@@ -70,3 +81,16 @@ module _ (system r year month leap day : ℕ) (d : OnDate system r year month le
 
   pub record-names : Names rec r
   record-names = Names.by-day refl (d .k) month-read (d .day-is)
+
+  pub record-bytes : Bytes rec
+  record-bytes =
+      let year-small = d .in-scope .year-inside in
+      let month-small = number-inside c ok (elapsedIn rec) month leap (d .k) month-read in
+      let mark-small = mark-inside c ok (elapsedIn rec) month leap (d .k) month-read in
+      let day-small = (reckoned c ok) .month-most (d .k) in
+      let system-small = d .in-scope .system-inside in
+      let placed = d .placed in
+      each-byte rec (
+        omega arith,
+        (omega arith, (omega arith, (omega arith, (omega arith, (omega arith, (omega arith, (omega arith, (omega arith, (omega arith, tt))))))))),
+      )

@@ -18,12 +18,13 @@ use Rattle.citation.specs.Store.{storedInto}
 abbrev pub stored : List ℕ → List ℕ → List ℕ
 stored s before = take 10 (storedInto s before)
 
--- Count day d has one stored record in a system. It is an accepted citation of kind 1 for that day; whatever accepted
+-- Count day d has one stored record in a system. It is bytes, an accepted citation of kind 1 for that day; whatever accepted
 -- citation names the day is stored as it; and no other citation of kind 1 names the day in that system.
 pub record OneRecord (system d : ℕ) : Type 0 where
   pub day : ℕ
   pub is-day : day + constantsOf system .anchor ≡ d
   pub it : List ℕ
+  pub bytes : Bytes it
   pub accepted : Accepted it
   pub is-kind-one : kindOf it ≡ 1
   pub in-system : systemOf it ≡ system

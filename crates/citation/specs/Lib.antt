@@ -10,4 +10,6 @@ pub mod Store
 -- What the demands ask for, in words.
 pub mod Demanded
 -- What the parts of the judgement are handed.
-pub mod Judged
+pub mod JudgeInputs
+-- The month and the day of a stored record have two digits at most.
+pub mod SmallFields

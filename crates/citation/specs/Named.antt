@@ -41,3 +41,11 @@ pub record OnDate (system r year month leap day : ℕ) : Type 0 where
   pub named : MonthNamed (constantsOf system) (yearsElapsed (constantsOf system) year) month leap k
   pub placed : Inside 1 (monthLength (constantsOf system) k) day
   pub day-is : r + constantsOf system .anchor ≡ dayOfMonth (constantsOf system) k day
+
+-- It has a date there.
+pub record Dated (system r : ℕ) : Type 0 where
+  pub year : ℕ
+  pub month : ℕ
+  pub leap : ℕ
+  pub day : ℕ
+  pub on : OnDate system r year month leap day

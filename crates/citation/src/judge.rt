@@ -3,10 +3,10 @@ ghost use mathlib.Core.Path.{_≡_};
 ghost use Prim.Native.Nat.{_<_};
 ghost use Rattle.citation.specs.Store.{refuse, accept, judgeRegisterDay, judgeOrdinal, judgeDay, judgeName, judgeKind, judgeOf};
 ghost use Rattle.citation.specs.Record.{kindLength};
-ghost use Rattle.citation.specs.Judged.{Fields, Whole};
+ghost use Rattle.citation.specs.JudgeInputs.{Fields, Whole};
 use crate::reading::byte;
-use crate::reading::four;
-use crate::reading::two;
+use crate::reading::le16;
+use crate::reading::le32;
 use calendar::data::DayName;
 use calendar::data::Ordinal;
 use calendar::data::RegisterDay;
@@ -52,7 +52,7 @@ fn accept(r: u32, system: u32, year: u32, month: u32, leap: u32, day: u32) -> Ju
 }
 
 // Kind 4.
-fn register_day(system: u32, day: RegisterDay) -> Judgement
+fn judge_register_day(system: u32, day: RegisterDay) -> Judgement
     requires { ⌜ system < 256 ⌝ }
     ensures { λ r. ⌜ r ≡ judgeRegisterDay system (day .0) ⌝ }
 {
@@ -71,7 +71,7 @@ fn register_day(system: u32, day: RegisterDay) -> Judgement
 }
 
 // Kind 3.
-fn ordinal(system: u32, year: u32, ordinal: Ordinal) -> Judgement
+fn judge_ordinal(system: u32, year: u32, ordinal: Ordinal) -> Judgement
     requires { ⌜ system < 256 ⌝ }
     ensures { λ r. ⌜ r ≡ judgeOrdinal system year (ordinal .0) ⌝ }
 {
@@ -82,11 +82,11 @@ fn ordinal(system: u32, year: u32, ordinal: Ordinal) -> Judgement
     if outside(1, y.length as u32, ordinal.0 as u32) {
         return refuse(7);
     }
-    register_day(system, RegisterDay(y.head.0 + ordinal.0 as u32 - 1))
+    judge_register_day(system, RegisterDay(y.head.0 + ordinal.0 as u32 - 1))
 }
 
 // Kind 1.
-fn day(system: u32, year: u32, month: u32, leap: u32, day: u32) -> Judgement
+fn judge_day(system: u32, year: u32, month: u32, leap: u32, day: u32) -> Judgement
     requires { ⌜ Fields system year month leap day ⌝ }
     ensures { λ r. ⌜ r ≡ judgeDay system year month leap day ⌝ }
 {
@@ -101,7 +101,7 @@ fn day(system: u32, year: u32, month: u32, leap: u32, day: u32) -> Judgement
 }
 
 // Kind 2.
-fn name(system: u32, year: u32, month: u32, leap: u32, name: DayName) -> Judgement
+fn judge_name(system: u32, year: u32, month: u32, leap: u32, name: DayName) -> Judgement
     requires { ⌜ Fields system year month leap 0 ⌝ }
     ensures { λ r. ⌜ r ≡ judgeName system year month leap (name .0) ⌝ }
 {
@@ -120,21 +120,21 @@ fn name(system: u32, year: u32, month: u32, leap: u32, name: DayName) -> Judgeme
 }
 
 // A record whose kind and length are right.
-fn kind(s: &[u8], kind: u32) -> Judgement
+fn judge_kind(s: &[u8], kind: u32) -> Judgement
     requires { ⌜ Whole (now s) kind ⌝ }
     ensures { λ r. ⌜ r ≡ judgeKind (now (s .entry)) ⌝ }
 {
     let system = byte(s, 4);
     if kind == 1 {
-        return day(system, two(s, 5), byte(s, 7), byte(s, 8), byte(s, 9));
+        return judge_day(system, le16(s, 5), byte(s, 7), byte(s, 8), byte(s, 9));
     }
     if kind == 2 {
-        return name(system, two(s, 5), byte(s, 7), byte(s, 8), DayName(s[9]));
+        return judge_name(system, le16(s, 5), byte(s, 7), byte(s, 8), DayName(s[9]));
     }
     if kind == 3 {
-        return ordinal(system, two(s, 5), Ordinal(two(s, 7) as u16));
+        return judge_ordinal(system, le16(s, 5), Ordinal(le16(s, 7) as u16));
     }
-    register_day(system, RegisterDay(four(s, 5)))
+    judge_register_day(system, RegisterDay(le32(s, 5)))
 }
 
 // Any bytes.
@@ -144,18 +144,18 @@ pub fn judge(s: &[u8]) -> Judgement
     if s.len() < 4 {
         return refuse(1);
     }
-    let k = two(s, 2);
+    let k = le16(s, 2);
     if outside(1, 4, k) {
         return refuse(2);
     }
     let length = kind_length(k);
-    if two(s, 0) != length {
+    if le16(s, 0) != length {
         return refuse(3);
     }
     if s.len() != length as usize {
         return refuse(3);
     }
-    kind(s, k)
+    judge_kind(s, k)
 }
 
 // Bytes in a record of a kind.

@@ -17,16 +17,16 @@ pub(crate) fn byte(s: &[u8], i: usize) -> u32
     wide(s[i])
 }
 
-pub(crate) fn two(s: &[u8], i: usize) -> u32
+pub(crate) fn le16(s: &[u8], i: usize) -> u32
     requires { ⌜ i + 1 < length (now s) ⌝ }
     ensures { λ r. ⌜ (r ≡ le16 (now (s .entry)) i) × (r < 2 ^ 16) ⌝ }
 {
     byte(s, i) + 256 * byte(s, i + 1)
 }
 
-pub(crate) fn four(s: &[u8], i: usize) -> u32
+pub(crate) fn le32(s: &[u8], i: usize) -> u32
     requires { ⌜ i + 3 < length (now s) ⌝ }
     ensures { λ r. ⌜ (r ≡ le32 (now (s .entry)) i) × (r < 2 ^ 32) ⌝ }
 {
-    two(s, i) + 65_536 * two(s, i + 2)
+    le16(s, i) + 65_536 * le16(s, i + 2)
 }

@@ -6,7 +6,7 @@ ghost use lib.Dec.{eqb};
 ghost use lib.ListN.{length};
 ghost use Rattle.lines.specs.Line.{storedDate, dayLine, refusedLine, lineOf};
 ghost use Rattle.lines.specs.Wrote.{Wrote};
-ghost use Rattle.citation.proofs.SmallFields.{SmallFields};
+ghost use Rattle.citation.specs.SmallFields.{SmallFields};
 use crate::put::below_100;
 use crate::put::byte;
 use crate::put::field;

@@ -4,8 +4,8 @@ use Rattle.reckoning.proofs.Refusals.{inside-of}
 use Rattle.reckoning.proofs.Fits.{days-fit}
 use Rattle.citation.proofs.Judgements.{year-refused, ordinal-wrong, ordinal-right}
 use borrow.Author.Needs.{needs}
-use Rattle.citation.proofs.judge.ordinal.Statement.{statement}
-use Rattle.citation.proofs.judge.ordinal.Tie as tie
+use Rattle.citation.proofs.judge.judge_ordinal.Statement.{statement}
+use Rattle.citation.proofs.judge.judge_ordinal.Tie as tie
 
 days-requires : tie.Need-days-requires
 days-requires c κs = search needs
@@ -40,14 +40,14 @@ add-t8 c = let small = days-fit _ _ _ (c .before .before .before .before .before
 sub-t9 : tie.Need-sub-t9
 sub-t9 c = let least = inside-of 1 (c .before .before .before .before .before .before .before .before .days .result .length) (c .before .before .before .before .before .before .before .before .before .args .ordinal .0) (sym (c .before .before .before .outside .ensures) ∙ c .before .before .if2 .left) in omega arith
 
-register-day-requires : tie.Need-register-day-requires
-register-day-requires c κs = search needs
+judge-register-day-requires : tie.Need-judge-register-day-requires
+judge-register-day-requires c κs = search needs
 
 returns-3 : tie.Need-returns-3
-returns-3 c = c .register-day .ensures ∙ ordinal-right _ _ _ _ (c .before .before .before .before .before .before .before .before .before .days .ensures) (c .before .before .before .before .before .before .before .if1 .left) (sym (c .before .before .before .before .outside .ensures) ∙ c .before .before .before .if2 .left)
+returns-3 c = c .judge-register-day .ensures ∙ ordinal-right _ _ _ _ (c .before .before .before .before .before .before .before .before .before .days .ensures) (c .before .before .before .before .before .before .before .if1 .left) (sym (c .before .before .before .before .outside .ensures) ∙ c .before .before .before .if2 .left)
 
-pub ordinal-spec : {M : Type 1} → statement M
-ordinal-spec =
+pub judge-ordinal-spec : {M : Type 1} → statement M
+judge-ordinal-spec =
     tie.close
     (tie.spec
     days-requires
@@ -61,5 +61,5 @@ ordinal-spec =
     cast-t7
     add-t8
     sub-t9
-    register-day-requires
+    judge-register-day-requires
     returns-3)

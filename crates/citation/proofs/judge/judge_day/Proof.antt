@@ -4,8 +4,8 @@ use Rattle.reckoning.proofs.Refusals.{inside-of}
 use Rattle.reckoning.proofs.Fits.{month-fits}
 use Rattle.citation.proofs.Judgements.{month-refused, day-wrong, day-right}
 use borrow.Author.Needs.{needs}
-use Rattle.citation.proofs.judge.day.Statement.{statement}
-use Rattle.citation.proofs.judge.day.Tie as tie
+use Rattle.citation.proofs.judge.judge_day.Statement.{statement}
+use Rattle.citation.proofs.judge.judge_day.Tie as tie
 
 month-requires : tie.Need-month-requires
 month-requires c κs = search needs
@@ -40,8 +40,8 @@ accept-requires c κs = search needs
 returns-3 : tie.Need-returns-3
 returns-3 c = c .accept .ensures ∙ day-right _ _ _ _ _ _ (c .before .before .before .before .before .before .before .month .ensures) (c .before .before .before .before .before .if1 .left) (sym (c .before .before .before .outside .ensures) ∙ c .before .before .if2 .left)
 
-pub day-spec : {M : Type 1} → statement M
-day-spec =
+pub judge-day-spec : {M : Type 1} → statement M
+judge-day-spec =
     tie.close
     (tie.spec
     month-requires

@@ -5,8 +5,8 @@ use native.Mathlib.Omega.{arith}
 use Rattle.reckoning.proofs.Fits.{month-fits}
 use Rattle.citation.proofs.Judgements.{name-month-refused, no-name, name-past, name-right}
 use borrow.Author.Needs.{needs}
-use Rattle.citation.proofs.judge.name.Statement.{statement}
-use Rattle.citation.proofs.judge.name.Tie as tie
+use Rattle.citation.proofs.judge.judge_name.Statement.{statement}
+use Rattle.citation.proofs.judge.judge_name.Tie as tie
 
 month-requires : tie.Need-month-requires
 month-requires c κs = search needs
@@ -59,8 +59,8 @@ accept-requires c κs = search needs
 returns-4 : tie.Need-returns-4
 returns-4 c = let named = ap (λ n. n .0) (c .before .before .before .before .before .day-name .ensures) in c .accept .ensures ∙ ap (λ n. accept (c .before .before .before .before .before .before .before .before .before .before .before .month .result .head .0 + (c .before .before .before .before .before .before .before .before .before .before .before .before .args .name .0 + 60 - n) % 60) (c .before .before .before .before .before .before .before .before .before .before .before .before .args .system) (c .before .before .before .before .before .before .before .before .before .before .before .before .args .year) (c .before .before .before .before .before .before .before .before .before .before .before .before .args .month) (c .before .before .before .before .before .before .before .before .before .before .before .before .args .leap) ((c .before .before .before .before .before .before .before .before .before .before .before .before .args .name .0 + 60 - n) % 60 + 1)) named ∙ name-right _ _ _ _ _ _ (c .before .before .before .before .before .before .before .before .before .before .before .month .ensures) (c .before .before .before .before .before .before .before .before .before .if1 .left) (c .before .before .before .before .before .before .before .if2 .left) (omega (arith, c .before .before .if3 .left, named))
 
-pub name-spec : {M : Type 1} → statement M
-name-spec =
+pub judge-name-spec : {M : Type 1} → statement M
+judge-name-spec =
     tie.close
     (tie.spec
     month-requires

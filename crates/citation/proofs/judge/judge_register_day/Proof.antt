@@ -1,8 +1,8 @@
 use mathlib.Core.Path.{_∙_}
 use Rattle.citation.proofs.Judgements.{date-refused, date-accepted}
 use borrow.Author.Needs.{needs}
-use Rattle.citation.proofs.judge.register_day.Statement.{statement}
-use Rattle.citation.proofs.judge.register_day.Tie as tie
+use Rattle.citation.proofs.judge.judge_register_day.Statement.{statement}
+use Rattle.citation.proofs.judge.judge_register_day.Tie as tie
 
 date-requires : tie.Need-date-requires
 date-requires c κs = search needs
@@ -31,8 +31,8 @@ accept-requires c κs = search needs
 returns-2 : tie.Need-returns-2
 returns-2 c = c .accept .ensures ∙ date-accepted _ _ _ (c .before .before .before .before .before .before .before .date .ensures) (c .before .before .before .before .before .if1 .left)
 
-pub register-day-spec : {M : Type 1} → statement M
-register-day-spec =
+pub judge-register-day-spec : {M : Type 1} → statement M
+judge-register-day-spec =
     tie.close
     (tie.spec
     date-requires
