@@ -37,8 +37,9 @@ test: all test-tools
 bench: all $(bench_tools)
 	@bench/run.sh
 
-# The program, from standard input to standard output.
-run: build/chiselbrow
+# The program, from standard input to standard output; what building it says goes to standard error.
+run:
+	@$(MAKE) build/chiselbrow < /dev/null >&2
 	@build/chiselbrow
 
 # Header, library, programs, manual pages, and a file for pkg-config.
@@ -58,7 +59,7 @@ clean:
 build:
 	mkdir -p build
 
-# rt gets no input of ours, so that `make run` can be given records at once.
+# rt gets no input of ours.
 $(library): $(crates) | build
 	rt staticlib citation < /dev/null
 	cp target/staticlib/libcitation.a $@

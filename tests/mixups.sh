@@ -28,10 +28,10 @@ for body in tests/mixups/*.body; do
         accepted=no
     fi
     if [ "$name" = right ]; then
-        [ "$accepted" = yes ] || { echo "mixups: right was refused"; tail -5 "$scratch/log"; exit 1; }
+        [ "$accepted" = yes ] || { echo "mixups: right was refused" >&2; tail -5 "$scratch/log" >&2; exit 1; }
     else
-        [ "$accepted" = no ] || { echo "mixups: $name was accepted"; exit 1; }
-        grep -q 'error\[mismatched-types\]' "$scratch/log" || { echo "mixups: $name failed for another reason"; cat "$scratch/log"; exit 1; }
+        [ "$accepted" = no ] || { echo "mixups: $name was accepted" >&2; exit 1; }
+        grep -q 'error\[mismatched-types\]' "$scratch/log" || { echo "mixups: $name failed for another reason" >&2; cat "$scratch/log" >&2; exit 1; }
     fi
     count=$((count + 1))
 done

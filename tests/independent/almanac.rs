@@ -1,6 +1,6 @@
 //! The page of a year: solstice, qi, months and day names.
 
-use crate::reckoning::{name_of, Books, Table};
+use crate::reckoning::{name_of, Tables, Table};
 use std::io::{self, Write};
 
 /// A whole number of any size, as its decimal digits without leading noughts,
@@ -48,7 +48,7 @@ impl Number {
 
 /// The pages of the years from first to last, both among them.
 pub fn pages(
-    books: &Books,
+    tables: &Tables,
     system: &Number,
     first: &Number,
     last: &Number,
@@ -56,17 +56,17 @@ pub fn pages(
 ) -> io::Result<()> {
     let mut year = first.clone();
     while year.at_most(last) {
-        page(books, system, &year, out)?;
+        page(tables, system, &year, out)?;
         year.add_one();
     }
     Ok(())
 }
 
 /// A wrong system is refused before a wrong year.
-fn page(books: &Books, system: &Number, year: &Number, out: &mut impl Write) -> io::Result<()> {
+fn page(tables: &Tables, system: &Number, year: &Number, out: &mut impl Write) -> io::Result<()> {
     let table = match system.small() {
-        Some(1) => books.table(1).unwrap(),
-        Some(2) => books.table(2).unwrap(),
+        Some(1) => tables.table(1).unwrap(),
+        Some(2) => tables.table(2).unwrap(),
         _ => return writeln!(out, "refused 4"),
     };
     match year.small() {

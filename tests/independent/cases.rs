@@ -3,7 +3,7 @@
 
 use crate::citation::store;
 use crate::lines::lines;
-use crate::reckoning::{name_of, Books, System, Table, FIRST_YEAR, LAST_YEAR};
+use crate::reckoning::{name_of, Tables, System, Table, FIRST_YEAR, LAST_YEAR};
 use crate::streams::citation_of;
 
 pub struct Checks {
@@ -25,40 +25,40 @@ impl Checks {
     }
 }
 
-pub fn run(books: &Books) -> Checks {
+pub fn run(tables: &Tables) -> Checks {
     let mut checks = Checks { passed: 0, failures: Vec::new() };
-    examples(books, &mut checks);
+    examples(tables, &mut checks);
     for system in 1..=2 {
-        let table = books.table(system).unwrap();
+        let table = tables.table(system).unwrap();
         facts(table, &mut checks);
         names(table, &mut checks);
         carried_walk(table, &mut checks);
-        every_day(books, table, &mut checks);
-        every_stored_form(books, table, &mut checks);
+        every_day(tables, table, &mut checks);
+        every_stored_form(tables, table, &mut checks);
     }
     checks
 }
 
 /// The refusal of a record stored with room enough, 0 when accepted.
-fn refusal(books: &Books, record: &[u8]) -> u8 {
-    store(books, record, 10).err().unwrap_or(0)
+fn refusal(tables: &Tables, record: &[u8]) -> u8 {
+    store(tables, record, 10).err().unwrap_or(0)
 }
 
-fn by_ordinal(books: &Books, system: u8, year: u16, ordinal: u16) -> u8 {
+fn by_ordinal(tables: &Tables, system: u8, year: u16, ordinal: u16) -> u8 {
     let (y, o) = (year.to_le_bytes(), ordinal.to_le_bytes());
-    refusal(books, &[9, 0, 3, 0, system, y[0], y[1], o[0], o[1]])
+    refusal(tables, &[9, 0, 3, 0, system, y[0], y[1], o[0], o[1]])
 }
 
-fn by_name(books: &Books, system: u8, year: u16, month: u8, leap: u8, name: u8) -> u8 {
+fn by_name(tables: &Tables, system: u8, year: u16, month: u8, leap: u8, name: u8) -> u8 {
     let y = year.to_le_bytes();
-    refusal(books, &[10, 0, 2, 0, system, y[0], y[1], month, leap, name])
+    refusal(tables, &[10, 0, 2, 0, system, y[0], y[1], month, leap, name])
 }
 
 /// The paper's examples 1 to 10, and the other places where it gives the
 /// number of a day.
-fn examples(books: &Books, checks: &mut Checks) {
-    let guantian = books.table(1).unwrap();
-    let jiyuan = books.table(2).unwrap();
+fn examples(tables: &Tables, checks: &mut Checks) {
+    let guantian = tables.table(1).unwrap();
+    let jiyuan = tables.table(2).unwrap();
 
     let y = guantian.year(1092);
     checks.same("1, day", y.solstice_day, 2119895);
@@ -74,19 +74,19 @@ fn examples(books: &Books, checks: &mut Checks) {
 
     checks.same("3, months", y.months.len(), 12);
     checks.same("3, days", y.length(), 355);
-    checks.same("3, ordinal 355", by_ordinal(books, 1, 1092, 355), 0);
-    checks.same("3, ordinal 356", by_ordinal(books, 1, 1092, 356), 7);
+    checks.same("3, ordinal 355", by_ordinal(tables, 1, 1092, 355), 0);
+    checks.same("3, ordinal 356", by_ordinal(tables, 1, 1092, 356), 7);
 
     checks.same("4, number", (y.months[0].number, y.months[0].leap), (11, false));
     checks.same("4, days", y.months[0].length, 30);
-    checks.same("4, name 50", by_name(books, 1, 1092, 11, 0, 50), 0);
-    checks.same("4, name 51", by_name(books, 1, 1092, 11, 0, 51), 7);
+    checks.same("4, name 50", by_name(tables, 1, 1092, 11, 0, 50), 0);
+    checks.same("4, name 51", by_name(tables, 1, 1092, 11, 0, 51), 7);
 
     let y = guantian.year(1094);
     checks.same("5, head", y.head, 2120601);
     checks.same("5, months", y.months.len(), 13);
     checks.same("5, days", y.length(), 384);
-    checks.same("5, ordinal 385", by_ordinal(books, 1, 1094, 385), 7);
+    checks.same("5, ordinal 385", by_ordinal(tables, 1, 1094, 385), 7);
 
     let eighth = &y.months[7];
     checks.same("6, number", (eighth.number, eighth.leap), (5, true));
@@ -111,8 +111,8 @@ fn examples(books: &Books, checks: &mut Checks) {
     let fourth = [0x09, 0x00, 0x04, 0x00, 0x01, 0x68, 0x5C, 0x20, 0x00];
     let four: [&[u8]; 4] = [&first, &second, &third, &fourth];
     for record in four {
-        checks.same("9, stored", store(books, record, 10), Ok((2120808, first)));
-        checks.same("9, no room", store(books, record, 9), Err(8));
+        checks.same("9, stored", store(tables, record, 10), Ok((2120808, first)));
+        checks.same("9, no room", store(tables, record, 9), Err(8));
     }
 
     let y = jiyuan.year(1108);
@@ -125,11 +125,11 @@ fn examples(books: &Books, checks: &mut Checks) {
     let mut input = four.concat();
     input.push(0);
     let mut out = Vec::new();
-    lines(books, &input, &mut out).unwrap();
+    lines(tables, &input, &mut out).unwrap();
     let expected = "G 1094 5* 1 2120808 37\n".repeat(4) + "refused 1\n";
     checks.same("the program", String::from_utf8(out).unwrap(), expected);
     let mut out = Vec::new();
-    lines(books, &[], &mut out).unwrap();
+    lines(tables, &[], &mut out).unwrap();
     checks.same("the program on nothing", out.len(), 0);
 
     // Two days of one name, sixty apart.
@@ -305,7 +305,7 @@ fn carried_walk(table: &Table, checks: &mut Checks) {
 
 /// Every day in all four kinds: the citation names the day that was walked
 /// to, and its stored record is the kind 1 record of that place.
-fn every_day(books: &Books, table: &Table, checks: &mut Checks) {
+fn every_day(tables: &Tables, table: &Table, checks: &mut Checks) {
     let system = table.system.number;
     let mut day = table.first_day;
     let mut year = FIRST_YEAR;
@@ -317,7 +317,7 @@ fn every_day(books: &Books, table: &Table, checks: &mut Checks) {
         checks.that(place.year as i128 == year, || format!("the year of day {}", day));
         let stored = citation_of(system, 1, *place, day);
         for kind in 1..=4 {
-            let result = store(books, &citation_of(system, kind, *place, day), 10);
+            let result = store(tables, &citation_of(system, kind, *place, day), 10);
             checks.that(
                 matches!(result, Ok((d, record)) if d as i128 == day && record[..] == stored[..]),
                 || format!("system {}, kind {}, day {}: {:?}", system, kind, day, result),
@@ -328,13 +328,13 @@ fn every_day(books: &Books, table: &Table, checks: &mut Checks) {
     checks.that(day == table.year(LAST_YEAR + 1).head, || "the last day walked to".to_string());
     for outside in [table.first_day - 1, day] {
         let d = (outside as u32).to_le_bytes();
-        checks.same("a day outside", refusal(books, &[9, 0, 4, 0, system, d[0], d[1], d[2], d[3]]), 7);
+        checks.same("a day outside", refusal(tables, &[9, 0, 4, 0, system, d[0], d[1], d[2], d[3]]), 7);
     }
 }
 
 /// Every kind 1 record of these years that could be written: just as many are
 /// accepted as there are days, and no day is named twice.
-fn every_stored_form(books: &Books, table: &Table, checks: &mut Checks) {
+fn every_stored_form(tables: &Tables, table: &Table, checks: &mut Checks) {
     let system = table.system.number;
     let mut named = vec![0u8; table.places.len()];
     let mut accepted = 0;
@@ -344,7 +344,7 @@ fn every_stored_form(books: &Books, table: &Table, checks: &mut Checks) {
             for leap in 0..=2 {
                 for day in 0..=32 {
                     let record = [10, 0, 1, 0, system, y[0], y[1], month, leap, day];
-                    if let Ok((d, stored)) = store(books, &record, 10) {
+                    if let Ok((d, stored)) = store(tables, &record, 10) {
                         accepted += 1;
                         named[(d as i128 - table.first_day) as usize] += 1;
                         checks.that(stored == record, || format!("{:?} is not its own record", record));

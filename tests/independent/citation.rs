@@ -1,6 +1,6 @@
 //! What a citation names, what it is refused for, and how its day is stored.
 
-use crate::reckoning::{name_of, Books, Table, Year, FIRST_YEAR, LAST_YEAR};
+use crate::reckoning::{name_of, Tables, Table, Year, FIRST_YEAR, LAST_YEAR};
 
 /// A stored citation: its register day and its ten bytes.
 pub type Stored = (u32, [u8; 10]);
@@ -14,7 +14,7 @@ fn four_bytes(bytes: &[u8], at: usize) -> u32 {
 }
 
 /// The day that a citation names, or the first of refusals 1 to 7 that holds.
-pub fn named_day(books: &Books, input: &[u8]) -> Result<i128, u8> {
+pub fn named_day(tables: &Tables, input: &[u8]) -> Result<i128, u8> {
     // 1: too short for a length and a kind
     if input.len() < 4 {
         return Err(1);
@@ -33,7 +33,7 @@ pub fn named_day(books: &Books, input: &[u8]) -> Result<i128, u8> {
         return Err(3);
     }
     // 4: no such system
-    let table = match books.table(input[4]) {
+    let table = match tables.table(input[4]) {
         Some(table) => table,
         None => return Err(4),
     };
@@ -129,13 +129,13 @@ pub fn stored_record(table: &Table, day: i128) -> [u8; 10] {
 }
 
 /// The storing step, for an output of that many bytes.
-pub fn store(books: &Books, input: &[u8], output_length: usize) -> Result<Stored, u8> {
-    let day = named_day(books, input)?;
+pub fn store(tables: &Tables, input: &[u8], output_length: usize) -> Result<Stored, u8> {
+    let day = named_day(tables, input)?;
     // 8: no room for the record
     if output_length < 10 {
         return Err(8);
     }
-    let table = books.table(input[4]).unwrap();
+    let table = tables.table(input[4]).unwrap();
     Ok((day as u32, stored_record(table, day)))
 }
 

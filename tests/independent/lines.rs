@@ -1,16 +1,16 @@
 //! The program of paper 01: records from standard input, one line for each.
 
 use crate::citation::store;
-use crate::reckoning::{name_of, Books};
+use crate::reckoning::{name_of, Tables};
 use std::io::{self, Write};
 
-pub fn lines(books: &Books, input: &[u8], out: &mut impl Write) -> io::Result<()> {
+pub fn lines(tables: &Tables, input: &[u8], out: &mut impl Write) -> io::Result<()> {
     let mut left = input;
     // The end says nothing of its own, neither at once nor after a record.
     while !left.is_empty() {
         match first_record(left) {
             Some(length) => {
-                writeln!(out, "{}", line(books, &left[..length]))?;
+                writeln!(out, "{}", line(tables, &left[..length]))?;
                 left = &left[length..];
             }
             None => {
@@ -25,13 +25,13 @@ pub fn lines(books: &Books, input: &[u8], out: &mut impl Write) -> io::Result<()
 
 /// The lines of every beginning of the input, from none of its bytes to as many
 /// as asked for, each after a line that tells how long it is.
-pub fn cuts(books: &Books, input: &[u8], longest: u64, out: &mut impl Write) -> io::Result<()> {
+pub fn cuts(tables: &Tables, input: &[u8], longest: u64, out: &mut impl Write) -> io::Result<()> {
     for length in 0..=input.len() {
         if length as u64 > longest {
             break;
         }
         writeln!(out, "cut {}", length)?;
-        lines(books, &input[..length], out)?;
+        lines(tables, &input[..length], out)?;
     }
     Ok(())
 }
@@ -51,12 +51,12 @@ fn first_record(left: &[u8]) -> Option<usize> {
 
 /// The line of one record: its date, register day and name, or its refusal.
 /// The program's own output is long enough, so that 8 never applies.
-fn line(books: &Books, record: &[u8]) -> String {
-    match store(books, record, 10) {
+fn line(tables: &Tables, record: &[u8]) -> String {
+    match store(tables, record, 10) {
         Err(refusal) => format!("refused {}", refusal),
         Ok((day, stored)) => {
             let day = day as i128;
-            let table = books.table(stored[4]).unwrap();
+            let table = tables.table(stored[4]).unwrap();
             let place = table.place(day).unwrap();
             format!(
                 "{} {} {}{} {} {} {}",

@@ -10,7 +10,7 @@ mod reckoning;
 mod streams;
 
 use almanac::Number;
-use reckoning::{Books, Table, GUANTIAN, JIYUAN};
+use reckoning::{Tables, Table, GUANTIAN, JIYUAN};
 use std::io::{self, BufWriter, Read, Write};
 use std::process::exit;
 
@@ -30,8 +30,8 @@ fn main() {
     let written = match words[..] {
         ["almanac", system, first] => almanac(system, first, first, &mut out),
         ["almanac", system, first, last] => almanac(system, first, last, &mut out),
-        ["lines"] => lines::lines(&Books::new(), &records(), &mut out),
-        ["cuts", longest] => lines::cuts(&Books::new(), &records(), word(longest), &mut out),
+        ["lines"] => lines::lines(&Tables::new(), &records(), &mut out),
+        ["cuts", longest] => lines::cuts(&Tables::new(), &records(), word(longest), &mut out),
         ["days", "1"] => streams::days(&Table::new(&GUANTIAN), &mut out),
         ["days", "2"] => streams::days(&Table::new(&JIYUAN), &mut out),
         ["random", seed, count] => random(word(seed), word(count), &mut out),
@@ -60,7 +60,7 @@ fn word(text: &str) -> u64 {
 
 fn almanac(system: &str, first: &str, last: &str, out: &mut impl Write) -> io::Result<()> {
     let (system, first, last) = (number(system), number(first), number(last));
-    almanac::pages(&Books::new(), &system, &first, &last, out)
+    almanac::pages(&Tables::new(), &system, &first, &last, out)
 }
 
 /// All of standard input.
@@ -75,7 +75,7 @@ fn records() -> Vec<u8> {
 
 fn random(seed: u64, count: u64, out: &mut impl Write) -> io::Result<()> {
     eprintln!("independent: random seed {}", seed);
-    let tally = streams::random(&Books::new(), seed, count, out)?;
+    let tally = streams::random(&Tables::new(), seed, count, out)?;
     eprint!("independent: accepted {}", tally[0]);
     for (refusal, times) in tally.iter().enumerate().skip(1) {
         eprint!(", refused {}: {}", refusal, times);
@@ -86,11 +86,11 @@ fn random(seed: u64, count: u64, out: &mut impl Write) -> io::Result<()> {
 
 fn stream(seed: u64, count: u64, out: &mut impl Write) -> io::Result<()> {
     eprintln!("independent: stream seed {}", seed);
-    streams::stream(&Books::new(), seed, count, out)
+    streams::stream(&Tables::new(), seed, count, out)
 }
 
 fn cases(out: &mut impl Write) -> io::Result<()> {
-    let checks = cases::run(&Books::new());
+    let checks = cases::run(&Tables::new());
     if checks.failures.is_empty() {
         return writeln!(out, "independent: {} checks passed", checks.passed);
     }

@@ -203,14 +203,14 @@ impl Table {
 }
 
 /// Both systems.
-pub struct Books {
+pub struct Tables {
     guantian: Table,
     jiyuan: Table,
 }
 
-impl Books {
-    pub fn new() -> Books {
-        Books { guantian: Table::new(&GUANTIAN), jiyuan: Table::new(&JIYUAN) }
+impl Tables {
+    pub fn new() -> Tables {
+        Tables { guantian: Table::new(&GUANTIAN), jiyuan: Table::new(&JIYUAN) }
     }
 
     pub fn table(&self, system: u8) -> Option<&Table> {

@@ -7,7 +7,7 @@
 
 use crate::citation::{answer, store, Stored};
 use crate::random::Random;
-use crate::reckoning::{name_of, Books, Place, Table};
+use crate::reckoning::{name_of, Tables, Place, Table};
 use std::io::{self, Write};
 
 fn frame(
@@ -68,15 +68,15 @@ pub fn days(table: &Table, out: &mut impl Write) -> io::Result<()> {
 pub type Tally = [u64; 9];
 
 /// Random and damaged records.
-pub fn random(books: &Books, seed: u64, count: u64, out: &mut impl Write) -> io::Result<Tally> {
+pub fn random(tables: &Tables, seed: u64, count: u64, out: &mut impl Write) -> io::Result<Tally> {
     let mut random = Random::new(seed);
-    let maker = Maker::new(books);
+    let maker = Maker::new(tables);
     let mut tally = [0; 9];
     for _ in 0..count {
         let input = maker.record(&mut random);
         let lowest = if random.once_in(2) { 0 } else { 10 };
         let output_length = random.between(lowest, 16);
-        let result = store(books, &input, output_length);
+        let result = store(tables, &input, output_length);
         tally[match &result {
             Ok(_) => 0,
             Err(refusal) => *refusal as usize,
@@ -87,9 +87,9 @@ pub fn random(books: &Books, seed: u64, count: u64, out: &mut impl Write) -> io:
 }
 
 /// Records one after another whose length fields hold, then some ending.
-pub fn stream(books: &Books, seed: u64, count: u64, out: &mut impl Write) -> io::Result<()> {
+pub fn stream(tables: &Tables, seed: u64, count: u64, out: &mut impl Write) -> io::Result<()> {
     let mut random = Random::new(seed);
-    let maker = Maker::new(books);
+    let maker = Maker::new(tables);
     for _ in 0..count {
         let mut record = maker.record(&mut random);
         if random.once_in(20) {
@@ -149,7 +149,7 @@ fn garbage(random: &mut Random, end: &mut Vec<u8>) {
 
 /// Makes records, sound ones and damaged ones.
 struct Maker<'a> {
-    books: &'a Books,
+    tables: &'a Tables,
     /// Days in leap months, by system: rare, so they are kept apart.
     leap_days: [Vec<usize>; 2],
     /// Register days at the edges of what is accepted.
@@ -157,11 +157,11 @@ struct Maker<'a> {
 }
 
 impl<'a> Maker<'a> {
-    fn new(books: &'a Books) -> Maker<'a> {
+    fn new(tables: &'a Tables) -> Maker<'a> {
         let mut leap_days = [Vec::new(), Vec::new()];
         let mut edges = vec![0, 1, u32::MAX - 1, u32::MAX];
         for system in 1..=2 {
-            let table = books.table(system).unwrap();
+            let table = tables.table(system).unwrap();
             for (i, place) in table.places.iter().enumerate() {
                 if place.leap {
                     leap_days[system as usize - 1].push(i);
@@ -173,13 +173,13 @@ impl<'a> Maker<'a> {
                 }
             }
         }
-        Maker { books, leap_days, edges }
+        Maker { tables, leap_days, edges }
     }
 
     /// A record that nothing speaks against, of any kind and system.
     fn valid(&self, random: &mut Random) -> Vec<u8> {
         let system = random.between(1, 2);
-        let table = self.books.table(system as u8).unwrap();
+        let table = self.tables.table(system as u8).unwrap();
         let days = table.places.len();
         let i = match random.below(8) {
             0 | 1 => random.pick(&self.leap_days[system - 1]),
