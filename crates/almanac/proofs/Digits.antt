@@ -10,7 +10,8 @@ use lib.Seq.{drop-cons}
 use borrow.Author.Tests.{le-leb, lt-leb}
 use Rattle.calendar.proofs.Rising.{by-order}
 use Rattle.almanac.specs.declared.arguments.Argument.{Argument}
-use Rattle.almanac.specs.Argument.{most, isDigit, allDigits, withDigits, numberOf, isNumber, argumentOf}
+use Rattle.lines.specs.Decimal.{withDigits, numberOf}
+use Rattle.almanac.specs.Argument.{most, isDigit, allDigits, isNumber, argumentOf}
 
 -- More digits make no number smaller.
 grows : (n : ℕ) (text : List ℕ) → n ≤ withDigits n text

@@ -8,7 +8,8 @@ use lib.ListN.{length, take, getD}
 use lib.Seq.{take-suc, take-length}
 use borrow.Author.Tests.{le-leb, lt-leb}
 use Rattle.calendar.proofs.Rising.{by-order}
-use Rattle.almanac.specs.Argument.{isDigit, allDigits, withDigits, numberOf}
+use Rattle.lines.specs.Decimal.{withDigits, numberOf}
+use Rattle.almanac.specs.Argument.{isDigit, allDigits}
 use Rattle.almanac.specs.Years.{longest, digitAt, countOf}
 use Rattle.almanac.proofs.Digits.{a-digit}
 

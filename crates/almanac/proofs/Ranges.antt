@@ -5,7 +5,8 @@ use mathlib.Core.Bool.{Bool, true, false, cond, _&&_, and-false}
 use mathlib.Core.List.{List}
 use Rattle.almanac.specs.declared.arguments.Argument.{Argument}
 use Rattle.almanac.specs.declared.years.Years.{Years}
-use Rattle.almanac.specs.Argument.{most, allDigits, numberOf, isNumber, argumentOf}
+use Rattle.lines.specs.Decimal.{numberOf}
+use Rattle.almanac.specs.Argument.{most, allDigits, isNumber, argumentOf}
 use Rattle.almanac.specs.Years.{countOf, yearsOf}
 use Rattle.almanac.proofs.Digits.{no-number, a-number, its-value, number-digits}
 

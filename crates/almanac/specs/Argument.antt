@@ -1,8 +1,9 @@
 -- A decimal argument.
-use Prim.Native.Nat.{ℕ, _+_, _*_, _-_, min}
+use Prim.Native.Nat.{ℕ, min}
 use mathlib.Core.Bool.{Bool, true, false, cond, _&&_}
 use mathlib.Core.List.{List, [], _∷_}
 use lib.Dec.{leb}
+use Rattle.lines.specs.Decimal.{numberOf}
 use Rattle.almanac.specs.declared.arguments.Argument.{Argument}
 
 -- The largest number told; larger ones are taken as it.
@@ -16,14 +17,6 @@ isDigit byte = leb 48 byte && leb byte 57
 unfoldable pub allDigits : List ℕ → Bool
 allDigits [] = true
 allDigits (byte ∷ text) = isDigit byte && allDigits text
-
--- The number n with the digits of a text written after it.
-unfoldable pub withDigits : ℕ → List ℕ → ℕ
-withDigits n [] = n
-withDigits n (byte ∷ text) = withDigits (n * 10 + (byte - 48)) text
-
-abbrev pub numberOf : List ℕ → ℕ
-numberOf text = withDigits 0 text
 
 -- A number is one digit or more and nothing else.
 unfoldable pub isNumber : List ℕ → Bool

@@ -4,7 +4,8 @@ use mathlib.Core.Bool.{cond, _&&_}
 use mathlib.Core.List.{List}
 use lib.Dec.{leb}
 use lib.ListN.{length, getD}
-use Rattle.almanac.specs.Argument.{most, numberOf, isNumber}
+use Rattle.lines.specs.Decimal.{numberOf}
+use Rattle.almanac.specs.Argument.{most, isNumber}
 use Rattle.almanac.specs.declared.years.Years.{Years}
 
 -- No range is told to be longer: to print one would take centuries.

@@ -5,6 +5,8 @@ pub mod Writing
 pub mod Putting
 -- Decimal numbers by their size.
 pub mod Decimals
+-- A number that is written reads back as itself.
+pub mod ReadBack
 -- The text of a line from its pieces.
 pub mod Lines
 -- Records framed in a buffer.

@@ -1,5 +1,5 @@
--- Decimal numbers of up to ten digits, two digits at a time.
-use Prim.Native.Nat.{ℕ, _+_, _/_, _%_}
+-- Decimal numbers: written, with up to ten digits, two digits at a time; and read.
+use Prim.Native.Nat.{ℕ, _+_, _*_, _-_, _/_, _%_}
 use mathlib.Core.Bool.{cond}
 use mathlib.Core.List.{List, [], _∷_, _++_}
 use lib.Dec.{ltb}
@@ -28,3 +28,12 @@ decimal n =
     ++ twoDigits (n / 10_000 % 100)
     ++ twoDigits (n / 100 % 100)
     ++ twoDigits (n % 100)))))
+
+-- The number n with the digits of a text written after it.
+unfoldable pub withDigits : ℕ → List ℕ → ℕ
+withDigits n [] = n
+withDigits n (byte ∷ text) = withDigits (n * 10 + (byte - digit 0)) text
+
+-- The number that a text of digits gives.
+abbrev pub numberOf : List ℕ → ℕ
+numberOf text = withDigits 0 text
