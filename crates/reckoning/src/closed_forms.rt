@@ -1,9 +1,9 @@
 // The closed forms of the reckoning, over the constants of one system. The bounds that each asks for keep its numbers
 // within 64 bits; every year in scope meets them.
 ghost use mathlib.Core.Path.{_≡_};
-ghost use Prim.Native.Nat.{_+_, _<_, _^_};
+ghost use Prim.Native.Nat.{_+_, _%_, _<_, _^_};
 ghost use Rattle.calendar.specs.Systems.{yearsElapsed, registerDay};
-ghost use Rattle.calendar.specs.Month.{monthHead};
+ghost use Rattle.calendar.specs.Month.{monthHead, numberOf};
 ghost use Rattle.calendar.specs.ClosedForms.{monthOfDay, monthOfQi, qiOfMonth, firstMonth, headOfYear, monthNumber, leapMark};
 ghost use Rattle.reckoning.specs.Room.{Room, Registered};
 use calendar::data::Constants;
@@ -81,12 +81,27 @@ pub(crate) fn year_head(c: Constants, n: u64) -> RegisterDay
     register_head(c, first_month(c, n))
 }
 
+// The number that middle qi g gives its month.
+pub(crate) fn number_of_qi(g: u64) -> u8
+    ensures { λ r. ⌜ r ≡ numberOf (g % 12) ⌝ }
+{
+    ((g % 12 + 10) % 12 + 1) as u8
+}
+
 // The number of month k.
 pub(crate) fn month_number(c: Constants, k: u64) -> u8
     requires { ⌜ Room c × (k + 1 < 2 ^ 32) ⌝ }
     ensures { λ r. ⌜ r ≡ monthNumber c k ⌝ }
 {
-    ((qi_of_month(c, k) % 12 + 10) % 12 + 1) as u8
+    number_of_qi(qi_of_month(c, k))
+}
+
+// The leap mark of month k, where g is the last middle qi before its end.
+pub(crate) fn leap_mark_by_qi(c: Constants, k: u64, g: u64) -> u8
+    requires { ⌜ Room c × (k + 1 < 2 ^ 32) × (g ≡ qiOfMonth c k) ⌝ }
+    ensures { λ r. ⌜ r ≡ leapMark c k ⌝ }
+{
+    (k - month_of_qi(c, g)) as u8
 }
 
 // The leap mark of month k.
@@ -94,5 +109,5 @@ pub(crate) fn leap_mark(c: Constants, k: u64) -> u8
     requires { ⌜ Room c × (k + 1 < 2 ^ 32) ⌝ }
     ensures { λ r. ⌜ r ≡ leapMark c k ⌝ }
 {
-    (k - month_of_qi(c, qi_of_month(c, k))) as u8
+    leap_mark_by_qi(c, k, qi_of_month(c, k))
 }

@@ -2,9 +2,10 @@
 ghost use mathlib.Core.Path.{_≡_};
 ghost use Rattle.reckoning.specs.Requests.{noDate, dateIn};
 ghost use Rattle.reckoning.specs.Room.{Room};
+use crate::closed_forms::leap_mark_by_qi;
 use crate::closed_forms::month_head;
 use crate::closed_forms::month_of_day;
-use crate::closed_forms::month_of_qi;
+use crate::closed_forms::number_of_qi;
 use crate::closed_forms::qi_of_month;
 use crate::data::Date;
 use calendar::data::Constants;
@@ -40,8 +41,8 @@ pub(crate) fn of_day(c: Constants, day: RegisterDay) -> Date
     Date {
         refusal: 0,
         year: (year - c.elapsed) as u16,
-        month: ((g % 12 + 10) % 12 + 1) as u8,
-        leap: (k - month_of_qi(c, g)) as u8,
+        month: number_of_qi(g),
+        leap: leap_mark_by_qi(c, k, g),
         day: (d - month_head(c, k) + 1) as u8,
     }
 }

@@ -141,5 +141,5 @@ pub fn date(system: u32, day: RegisterDay) -> Date
 pub fn day_name(day: RegisterDay) -> DayName
     ensures { λ r. ⌜ r ≡ record { 0 = nameOf (day .0) } ⌝ }
 {
-    DayName(((day.0 as u64 + 49) % 60) as u8)
+    DayName(names::name_of(day.0 as u64))
 }

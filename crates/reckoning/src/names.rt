@@ -1,6 +1,7 @@
 // The names of one year's days.
 ghost use mathlib.Core.Path.{_≡_};
-ghost use Prim.Native.Nat.{_≤_};
+ghost use Prim.Native.Nat.{_≤_, _<_, _^_};
+ghost use Rattle.calendar.specs.Name.{nameOf};
 ghost use Rattle.reckoning.specs.Requests.{sheetIn, nameAt, noNames};
 ghost use Rattle.reckoning.specs.Filled.{filled};
 ghost use Rattle.reckoning.specs.Room.{Reach};
@@ -8,6 +9,14 @@ use crate::data::Sheet;
 use crate::year_days;
 use calendar::data::Constants;
 use calendar::data::RegisterDay;
+
+// The name of register day d.
+pub(crate) fn name_of(d: u64) -> u8
+    requires { ⌜ d < 2 ^ 63 ⌝ }
+    ensures { λ r. ⌜ r ≡ nameOf d ⌝ }
+{
+    ((d + 49) % 60) as u8
+}
 
 // The names of `length` days from register day `head` on, and 255 after them.
 fn names_from(head: RegisterDay, length: usize) -> [u8; 384]
@@ -18,7 +27,7 @@ fn names_from(head: RegisterDay, length: usize) -> [u8; 384]
     let mut names = [255u8; 384];
     let mut i = 0;
     while i < length {
-        names[i] = ((first + i as u64 + 49) % 60) as u8;
+        names[i] = name_of(first + i as u64);
         i += 1;
     }
     names

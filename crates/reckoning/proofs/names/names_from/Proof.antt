@@ -1,6 +1,6 @@
 use borrow.Author.Needs.{needs}
 use Prim.Native.Nat.{_-_, _≤_}
-use mathlib.Core.Path.{_≡_, refl, ap, _∙_}
+use mathlib.Core.Path.{_≡_, ap, _∙_}
 use native.Mathlib.Omega.{arith}
 use Rattle.reckoning.specs.Requests.{nameAt, noNames}
 use Rattle.reckoning.specs.Filled.{filled}
@@ -20,14 +20,11 @@ cast-first c = search needs
 loop-holds : tie.Need-loop-holds Inv-loop μ-loop
 loop-holds c = (omega arith, filled-none _ _)
 
-add-names : tie.Need-add-names Inv-loop μ-loop
-add-names c = omega arith
+add-name-of : tie.Need-add-name-of Inv-loop μ-loop
+add-name-of c = omega arith
 
-add-names-2 : tie.Need-add-names-2 Inv-loop μ-loop
-add-names-2 c = omega arith
-
-cast-names : tie.Need-cast-names Inv-loop μ-loop
-cast-names c = omega arith
+name-of-requires : tie.Need-name-of-requires Inv-loop μ-loop
+name-of-requires c κs = omega arith
 
 array-write-names : tie.Need-array-write-names Inv-loop μ-loop
 array-write-names c = omega arith
@@ -39,10 +36,13 @@ loop-less : tie.Need-loop-less Inv-loop μ-loop
 loop-less c = omega arith
 
 loop-again : tie.Need-loop-again Inv-loop μ-loop
-loop-again c = (omega arith, filled-more _ _ _ _ _ (c .before .loop .inv .1) refl)
+loop-again c = (omega arith, filled-more _ _ _ _ _ (c .before .before .loop .inv .1) (c .name-of .ensures))
 
 returns : tie.Need-returns Inv-loop μ-loop
-returns c = let e : c .before .loop .i ≡ c .before .before .before .args .length = omega arith in c .before .loop .inv .1 ∙ ap (filled _ noNames) e
+returns c =
+    let loop = c .before .loop in
+    let e : loop .i ≡ c .before .before .before .args .length = omega arith in
+    loop .inv .1 ∙ ap (filled _ noNames) e
 
 pub names-from-spec : {M : Type 1} → statement M
 names-from-spec =
@@ -52,9 +52,8 @@ names-from-spec =
     μ-loop
     cast-first
     loop-holds
-    add-names
-    add-names-2
-    cast-names
+    add-name-of
+    name-of-requires
     array-write-names
     add-i
     loop-less
