@@ -1,4 +1,6 @@
-use mathlib.Core.Path.{subst, sym, ap, _∙_}
+use mathlib.Core.Path.{_≡_, subst, sym, ap, _∙_}
+use mathlib.Core.Bool.{false}
+use Rattle.reckoning.specs.Refusal.{outside}
 use Rattle.reckoning.specs.Room.{Room}
 use Rattle.reckoning.specs.Requests.{dateIn, dateOf}
 use Rattle.reckoning.proofs.Scope.{room}
@@ -7,6 +9,9 @@ use Rattle.reckoning.proofs.Dated.{date-answered}
 use borrow.Author.Needs.{needs}
 use Rattle.reckoning.proofs.date.Statement.{statement}
 use Rattle.reckoning.proofs.date.Tie as tie
+
+system-inside : (c : tie.Else1) → outside 1 2 (c .before .before .args .system) ≡ false
+system-inside c = sym (c .before .outside .ensures) ∙ c .if1 .left
 
 outside-requires : tie.Need-outside-requires
 outside-requires c κs = search needs
@@ -25,7 +30,11 @@ of-day-requires : tie.Need-of-day-requires
 of-day-requires c κs = subst Room (sym (c .guantian .ensures)) (room 1)
 
 returns-2 : tie.Need-returns-2
-returns-2 c = c .of-day .ensures ∙ ap (λ k. dateIn k (c .before .before .before .before .before .args .day .0)) (c .before .guantian .ensures ∙ sym (picks-guantian _ (c .before .before .if2 .taken))) ∙ date-answered (c .before .before .before .before .before .args .system) (c .before .before .before .before .before .args .day .0) (sym (c .before .before .before .before .outside .ensures) ∙ c .before .before .before .if1 .left)
+returns-2 c =
+    let inside = c .before .before .before in
+    let args = inside .before .before .args in
+    let picked = c .before .guantian .ensures ∙ sym (picks-guantian _ (c .before .before .if2 .taken)) in
+    c .of-day .ensures ∙ ap (λ k. dateIn k (args .day .0)) picked ∙ date-answered _ _ (system-inside inside)
 
 jiyuan-requires : tie.Need-jiyuan-requires
 jiyuan-requires c κs = search needs
@@ -34,7 +43,11 @@ of-day-requires-2 : tie.Need-of-day-requires-2
 of-day-requires-2 c κs = subst Room (sym (c .jiyuan .ensures)) (room 2)
 
 returns-3 : tie.Need-returns-3
-returns-3 c = c .of-day2 .ensures ∙ ap (λ k. dateIn k (c .before .before .before .before .before .args .day .0)) (c .before .jiyuan .ensures ∙ sym (picks-jiyuan _ (c .before .before .if2 .left))) ∙ date-answered (c .before .before .before .before .before .args .system) (c .before .before .before .before .before .args .day .0) (sym (c .before .before .before .before .outside .ensures) ∙ c .before .before .before .if1 .left)
+returns-3 c =
+    let inside = c .before .before .before in
+    let args = inside .before .before .args in
+    let picked = c .before .jiyuan .ensures ∙ sym (picks-jiyuan _ (c .before .before .if2 .left)) in
+    c .of-day2 .ensures ∙ ap (λ k. dateIn k (args .day .0)) picked ∙ date-answered _ _ (system-inside inside)
 
 pub date-spec : {M : Type 1} → statement M
 date-spec =

@@ -11,14 +11,21 @@ of-qi-requires c κs = search needs
 
 returns : tie.Need-returns
 unfolding qiOf
-returns c = refused (λ k n. qiIn k n (c .before .before .before .args .i)) noQi _ _ (c .before .before .of-qi .ensures) (c .if1 .taken)
+returns c =
+    let i = c .before .before .before .args .i in
+    refused (λ k n. qiIn k n i) noQi _ _ (c .before .before .of-qi .ensures) (c .if1 .taken)
 
 qi-requires : tie.Need-qi-requires
-qi-requires c κs = let in-scope = accepted-qi _ _ _ (sym (ap (λ a. a .refusal) (c .before .before .of-qi .ensures)) ∙ c .if1 .left) in (within-reach _ _ _ _ (c .before .before .of-qi .ensures) (in-scope .0), in-scope .1)
+qi-requires c κs =
+    let asked = c .before .before .of-qi .ensures in
+    let in-scope = accepted-qi _ _ _ (sym (ap (λ a. a .refusal) asked) ∙ c .if1 .left) in
+    (within-reach _ _ _ _ asked (in-scope .0), in-scope .1)
 
 returns-2 : tie.Need-returns-2
 unfolding qiOf
-returns-2 c = c .qi .ensures ∙ answered (λ k n. qiIn k n (c .before .before .before .before .args .i)) noQi _ _ (c .before .before .before .of-qi .ensures) (c .before .if1 .left)
+returns-2 c =
+    let i = c .before .before .before .before .args .i in
+    c .qi .ensures ∙ answered (λ k n. qiIn k n i) noQi _ _ (c .before .before .before .of-qi .ensures) (c .before .if1 .left)
 
 pub qi-spec : {M : Type 1} → statement M
 qi-spec = tie.close (tie.spec of-qi-requires returns qi-requires returns-2)

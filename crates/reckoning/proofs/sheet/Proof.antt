@@ -14,7 +14,9 @@ unfolding sheetOf
 returns c = refused sheetIn noSheet _ _ (c .before .before .of-year .ensures) (c .if1 .taken)
 
 of-year-requires-2 : tie.Need-of-year-requires-2
-of-year-requires-2 c κs = within-reach _ _ _ _ (c .before .before .of-year .ensures) (accepted _ _ (sym (ap (λ a. a .refusal) (c .before .before .of-year .ensures)) ∙ c .if1 .left))
+of-year-requires-2 c κs =
+    let asked = c .before .before .of-year .ensures in
+    within-reach _ _ _ _ asked (accepted _ _ (sym (ap (λ a. a .refusal) asked) ∙ c .if1 .left))
 
 returns-2 : tie.Need-returns-2
 unfolding sheetOf

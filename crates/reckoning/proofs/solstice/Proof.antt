@@ -14,11 +14,15 @@ unfolding solsticeOf
 returns c = refused solsticeIn noSolstice _ _ (c .before .before .of-year .ensures) (c .if1 .taken)
 
 solstice-requires : tie.Need-solstice-requires
-solstice-requires c κs = within-reach _ _ _ _ (c .before .before .of-year .ensures) (accepted _ _ (sym (ap (λ a. a .refusal) (c .before .before .of-year .ensures)) ∙ c .if1 .left))
+solstice-requires c κs =
+    let asked = c .before .before .of-year .ensures in
+    within-reach _ _ _ _ asked (accepted _ _ (sym (ap (λ a. a .refusal) asked) ∙ c .if1 .left))
 
 returns-2 : tie.Need-returns-2
 unfolding solsticeOf
-returns-2 c = c .solstice .ensures ∙ answered solsticeIn noSolstice _ _ (c .before .before .before .of-year .ensures) (c .before .if1 .left)
+returns-2 c =
+    let asked = c .before .before .before .of-year .ensures in
+    c .solstice .ensures ∙ answered solsticeIn noSolstice _ _ asked (c .before .if1 .left)
 
 pub solstice-spec : {M : Type 1} → statement M
 solstice-spec = tie.close (tie.spec of-year-requires returns solstice-requires returns-2)

@@ -13,7 +13,11 @@ years-elapsed-requires : tie.Need-years-elapsed-requires
 years-elapsed-requires c κs = subst Room (sym (c .constants-of .ensures)) (room (c .before .args .system))
 
 returns : tie.Need-returns
-returns c = let n = c .years-elapsed .ensures ∙ ap (λ x. yearsElapsed x (c .before .before .args .year)) (c .before .constants-of .ensures) in λ j. record { refusal = c .before .before .args .refusal; c = c .before .constants-of .ensures j; n = n j }
+returns c =
+    let args = c .before .before .args in
+    let constants = c .before .constants-of .ensures in
+    let n = c .years-elapsed .ensures ∙ ap (λ k. yearsElapsed k (args .year)) constants in
+    λ j. record { refusal = args .refusal; c = constants j; n = n j }
 
 pub ask-spec : {M : Type 1} → statement M
 ask-spec = tie.close (tie.spec constants-of-requires years-elapsed-requires returns)

@@ -11,7 +11,9 @@ ask-requires : tie.Need-ask-requires
 ask-requires c κs = search needs
 
 returns : tie.Need-returns
-returns c = c .ask .ensures ∙ ap (λ r. askedOf r (c .before .before .args .system) (c .before .before .args .year)) (c .before .of-qi .ensures)
+returns c =
+    let args = c .before .before .args in
+    c .ask .ensures ∙ ap (λ r. askedOf r (args .system) (args .year)) (c .before .of-qi .ensures)
 
 pub of-qi-spec : {M : Type 1} → statement M
 of-qi-spec = tie.close (tie.spec of-qi-requires ask-requires returns)

@@ -11,7 +11,9 @@ ask-requires : tie.Need-ask-requires
 ask-requires c κs = search needs
 
 returns : tie.Need-returns
-returns c = c .ask .ensures ∙ ap (λ r. askedOf r (c .before .before .args .system) (c .before .before .args .year)) (c .before .of-year .ensures)
+returns c =
+    let args = c .before .before .args in
+    c .ask .ensures ∙ ap (λ r. askedOf r (args .system) (args .year)) (c .before .of-year .ensures)
 
 pub of-year-spec : {M : Type 1} → statement M
 of-year-spec = tie.close (tie.spec of-year-requires ask-requires returns)

@@ -12,7 +12,9 @@ register-day-requires : tie.Need-register-day-requires
 register-day-requires c κs = search needs
 
 returns : tie.Need-returns
-returns c = c .register-day .ensures ∙ ap (λ d. asRegisterDay (registerDay (c .before .before .args .c) d)) (c .before .month-head .ensures)
+returns c =
+    let k = c .before .before .args .c in
+    c .register-day .ensures ∙ ap (λ d. asRegisterDay (registerDay k d)) (c .before .month-head .ensures)
 
 pub register-head-spec : {M : Type 1} → statement M
 register-head-spec = tie.close (tie.spec month-head-requires register-day-requires returns)

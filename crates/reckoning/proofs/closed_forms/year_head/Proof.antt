@@ -12,10 +12,16 @@ first-month-requires : tie.Need-first-month-requires
 first-month-requires c κs = search needs
 
 register-head-requires : tie.Need-register-head-requires
-register-head-requires c κs = (c .before .pre .0, omega arith, subst (λ k. Registered (c .before .args .c) (monthHead (c .before .args .c) k)) (sym (c .first-month .ensures)) (c .before .pre .3))
+register-head-requires c κs =
+    let start = c .before in
+    let k = start .args .c in
+    let first-is = sym (c .first-month .ensures) in
+    (start .pre .0, omega arith, subst (λ m. Registered k (monthHead k m)) first-is (start .pre .3))
 
 returns : tie.Need-returns
-returns c = c .register-head .ensures ∙ ap (λ k. asRegisterDay (registerDay (c .before .before .args .c) (monthHead (c .before .before .args .c) k))) (c .before .first-month .ensures)
+returns c =
+    let k = c .before .before .args .c in
+    c .register-head .ensures ∙ ap (λ m. asRegisterDay (registerDay k (monthHead k m))) (c .before .first-month .ensures)
 
 pub year-head-spec : {M : Type 1} → statement M
 year-head-spec = tie.close (tie.spec first-month-requires register-head-requires returns)

@@ -21,13 +21,24 @@ register-day-requires : tie.Need-register-day-requires
 register-day-requires c κs = search needs
 
 sub-t5 : tie.Need-sub-t5
-sub-t5 c = omega (arith, c .before .before .month-head .ensures, c .before .month-head2 .ensures, (reckoned _ (c .before .before .before .pre .0 .consistent)) .month-least (c .before .before .before .args .k))
+sub-t5 c =
+    let start = c .before .before .before in
+    let K = reckoned _ (start .pre .0 .consistent) in
+    omega (arith, c .before .before .month-head .ensures, c .before .month-head2 .ensures, K .month-least (start .args .k))
 
 cast-t7 : tie.Need-cast-t7
-cast-t7 c = omega (arith, c .before .before .month-head .ensures, c .before .month-head2 .ensures, (reckoned _ (c .before .before .before .pre .0 .consistent)) .month-most (c .before .before .before .args .k))
+cast-t7 c =
+    let start = c .before .before .before in
+    let K = reckoned _ (start .pre .0 .consistent) in
+    omega (arith, c .before .before .month-head .ensures, c .before .month-head2 .ensures, K .month-most (start .args .k))
 
 returns : tie.Need-returns
-returns c = let head = c .register-day .ensures ∙ ap (λ d. asRegisterDay (registerDay (c .before .before .before .args .c) d)) (c .before .before .month-head .ensures) in let length = ap₂ (λ a b. b - a) (c .before .before .month-head .ensures) (c .before .month-head2 .ensures) in λ j. record { refusal = 0; head = head j; length = length j }
+returns c =
+    let constants = c .before .before .before .args .c in
+    let first = c .before .before .month-head .ensures in
+    let head = c .register-day .ensures ∙ ap (λ d. asRegisterDay (registerDay constants d)) first in
+    let length = ap₂ (λ a b. b - a) first (c .before .month-head2 .ensures) in
+    λ j. record { refusal = 0; head = head j; length = length j }
 
 pub at-spec : {M : Type 1} → statement M
 at-spec =

@@ -1,14 +1,41 @@
-use Prim.Native.Nat.{_+_}
+use Prim.Native.Nat.{_+_, _^_, _<_}
 use borrow.Author.Tests.{lt-ltb, le-ltb}
-use mathlib.Core.Path.{ap₂}
-use Rattle.reckoning.specs.Requests.{monthAt}
+use mathlib.Core.Path.{_≡_, sym, ap, ap₂, _∙_}
+use mathlib.Core.Bool.{false}
 use lib.Dec.{ltb}
-use mathlib.Core.Path.{sym, ap, _∙_}
 use native.Mathlib.Omega.{arith}
-use Rattle.reckoning.proofs.Cited.{number-wrong, mark-wrong, ordinary-month, leap-month, leap-lacks, ordinary-registered, leap-registered}
+use Rattle.calendar.specs.Month.{monthHead}
+use Rattle.calendar.specs.ClosedForms.{leapFollows}
+use Rattle.reckoning.specs.Room.{Room, Registered}
+use Rattle.reckoning.specs.Refusal.{outside}
+use Rattle.reckoning.specs.Requests.{monthAt}
+use Rattle.reckoning.proofs.Cited.{number-wrong, mark-wrong, ordinary-month, leap-month, leap-lacks}
+use Rattle.reckoning.proofs.Cited.{ordinary-registered, leap-registered}
 use borrow.Author.Needs.{needs}
 use Rattle.reckoning.proofs.months.cited.Statement.{statement}
 use Rattle.reckoning.proofs.months.cited.Tie as tie
+
+number-inside : (c : tie.Else1) → outside 1 12 (c .before .before .args .number) ≡ false
+number-inside c = sym (c .before .outside .ensures) ∙ c .if1 .left
+
+mark-inside : (c : tie.Else2) → outside 0 1 (c .before .before .before .before .args .leap) ≡ false
+mark-inside c = sym (c .before .outside2 .ensures) ∙ c .if2 .left
+
+-- The ordinary month of the number.
+registered : (c : tie.After-month-of-qi) →
+    let k = c .month-of-qi .result in
+    let constants = c .before .before .before .before .before .args .c in
+    Room constants × (k + 1 < 2 ^ 32) × Registered constants (monthHead constants k)
+registered c =
+    let start = c .before .before .before .before .before in
+    ordinary-registered _ _ (start .pre) (start .args .number) _ (c .month-of-qi .ensures)
+
+-- The two months reckoned tell whether a leap month follows.
+months-told : (c : tie.After-month-of-qi2) →
+    let args = c .before .before .before .before .before .before .before .args in
+    leapFollows (args .c) (args .n) (args .number) ≡ ltb (c .before .before .month-of-qi .result + 1) (c .month-of-qi2 .result)
+months-told c =
+    ap₂ (λ a b. ltb (a + 1) b) (sym (c .before .before .month-of-qi .ensures)) (sym (c .month-of-qi2 .ensures))
 
 outside-requires : tie.Need-outside-requires
 outside-requires c κs = search needs
@@ -26,7 +53,9 @@ none-requires-2 : tie.Need-none-requires-2
 none-requires-2 c κs = search needs
 
 returns-2 : tie.Need-returns-2
-returns-2 c = c .none2 .ensures ∙ mark-wrong _ _ _ _ (sym (c .before .before .before .before .outside .ensures) ∙ c .before .before .before .if1 .left) (sym (c .before .before .outside2 .ensures) ∙ c .before .if2 .taken)
+returns-2 c =
+    let mark-outside = sym (c .before .before .outside2 .ensures) ∙ c .before .if2 .taken in
+    c .none2 .ensures ∙ mark-wrong _ _ _ _ (number-inside (c .before .before .before)) mark-outside
 
 mul-g : tie.Need-mul-g
 mul-g c = search needs
@@ -41,13 +70,19 @@ month-of-qi-requires : tie.Need-month-of-qi-requires
 month-of-qi-requires c κs = search needs
 
 at-requires : tie.Need-at-requires
-at-requires c κs = ordinary-registered _ _ (c .before .before .before .before .before .before .pre) (c .before .before .before .before .before .before .args .number) _ (c .before .month-of-qi .ensures)
+at-requires c κs = registered (c .before)
 
 returns-3 : tie.Need-returns-3
-returns-3 c = c .at .ensures ∙ ap (monthAt (c .before .before .before .before .before .before .before .args .c)) (c .before .before .month-of-qi .ensures) ∙ ordinary-month _ _ _ _ (sym (c .before .before .before .before .before .before .outside .ensures) ∙ c .before .before .before .before .before .if1 .left) (sym (c .before .before .before .before .outside2 .ensures) ∙ c .before .before .before .if2 .left) (c .before .if3 .taken)
+returns-3 c =
+    let qi = c .before .before in
+    let start = qi .before .before .before .before .before in
+    let month = ordinary-month _ _ _ _ (number-inside (qi .before .before .before)) (mark-inside (qi .before)) (c .before .if3 .taken) in
+    c .at .ensures ∙ ap (monthAt (start .args .c)) (qi .month-of-qi .ensures) ∙ month
 
 add-if4 : tie.Need-add-if4
-add-if4 c = let small = ordinary-registered _ _ (c .before .before .before .before .before .before .pre) (c .before .before .before .before .before .before .args .number) _ (c .before .month-of-qi .ensures) in omega arith
+add-if4 c =
+    let small = registered (c .before) in
+    omega arith
 
 add-month-of-qi : tie.Need-add-month-of-qi
 add-month-of-qi c = search needs
@@ -59,16 +94,31 @@ add-at : tie.Need-add-at
 add-at c = search needs
 
 at-requires-2 : tie.Need-at-requires-2
-at-requires-2 c κs = leap-registered _ _ (c .before .before .before .before .before .before .before .before .pre) (c .before .before .before .before .before .before .before .before .args .number) _ _ (c .before .before .before .month-of-qi .ensures) (c .before .month-of-qi2 .ensures) (c .if4 .taken)
+at-requires-2 c κs =
+    let next = c .before in
+    let qi = next .before .before in
+    let start = qi .before .before .before .before .before in
+    leap-registered _ _ (start .pre) (start .args .number) _ _ (qi .month-of-qi .ensures) (next .month-of-qi2 .ensures) (c .if4 .taken)
 
 returns-4 : tie.Need-returns-4
-returns-4 c = c .at2 .ensures ∙ ap (λ k. monthAt (c .before .before .before .before .before .before .before .before .before .args .c) (k + 1)) (c .before .before .before .before .month-of-qi .ensures) ∙ leap-month _ _ _ _ (sym (c .before .before .before .before .before .before .before .before .outside .ensures) ∙ c .before .before .before .before .before .before .before .if1 .left) (sym (c .before .before .before .before .before .before .outside2 .ensures) ∙ c .before .before .before .before .before .if2 .left) (c .before .before .before .if3 .left) (ap₂ (λ a b. ltb (a + 1) b) (sym (c .before .before .before .before .month-of-qi .ensures)) (sym (c .before .before .month-of-qi2 .ensures)) ∙ lt-ltb _ _ (c .before .if4 .taken))
+returns-4 c =
+    let next = c .before .before in
+    let qi = next .before .before in
+    let inside = qi .before in
+    let k = inside .before .before .before .before .args .c in
+    let follows = months-told next ∙ lt-ltb _ _ (c .before .if4 .taken) in
+    let month = leap-month _ _ _ _ (number-inside (inside .before .before)) (mark-inside inside) (next .before .if3 .left) follows in
+    c .at2 .ensures ∙ ap (λ m. monthAt k (m + 1)) (qi .month-of-qi .ensures) ∙ month
 
 none-requires-3 : tie.Need-none-requires-3
 none-requires-3 c κs = search needs
 
 returns-5 : tie.Need-returns-5
-returns-5 c = c .none3 .ensures ∙ leap-lacks _ _ _ _ (sym (c .before .before .before .before .before .before .before .before .outside .ensures) ∙ c .before .before .before .before .before .before .before .if1 .left) (sym (c .before .before .before .before .before .before .outside2 .ensures) ∙ c .before .before .before .before .before .if2 .left) (c .before .before .before .if3 .left) (ap₂ (λ a b. ltb (a + 1) b) (sym (c .before .before .before .before .month-of-qi .ensures)) (sym (c .before .before .month-of-qi2 .ensures)) ∙ le-ltb _ _ (c .before .if4 .left))
+returns-5 c =
+    let next = c .before .before in
+    let inside = next .before .before .before in
+    let lacks = months-told next ∙ le-ltb _ _ (c .before .if4 .left) in
+    c .none3 .ensures ∙ leap-lacks _ _ _ _ (number-inside (inside .before .before)) (mark-inside inside) (next .before .if3 .left) lacks
 
 pub cited-spec : {M : Type 1} → statement M
 cited-spec =

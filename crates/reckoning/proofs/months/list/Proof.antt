@@ -25,7 +25,9 @@ add-k : tie.Need-add-k Inv-loop μ-loop
 add-k c = omega arith
 
 register-head-requires : tie.Need-register-head-requires Inv-loop μ-loop
-register-head-requires c κs = (c .before .before .pre .room, omega arith, c .before .before .pre .head (c .before .loop .i) (omega arith))
+register-head-requires c κs =
+    let pre = c .before .before .pre in
+    (pre .room, omega arith, pre .head (c .before .loop .i) (omega arith))
 
 mul-heads : tie.Need-mul-heads Inv-loop μ-loop
 mul-heads c = omega arith
@@ -52,13 +54,21 @@ loop-less : tie.Need-loop-less Inv-loop μ-loop
 loop-less c = omega arith
 
 loop-again : tie.Need-loop-again Inv-loop μ-loop
-loop-again c = let inv = c .before .before .before .before .loop .inv in (omega arith, filled-more _ _ _ _ _ (inv .1) (c .before .before .register-head .ensures), filled-more _ _ _ _ _ (inv .2) (c .before .month-number .ensures), filled-more _ _ _ _ _ (inv .3) (c .leap-mark .ensures))
+loop-again c =
+    let inv = c .before .before .before .before .loop .inv in (
+      omega arith,
+      filled-more _ _ _ _ _ (inv .1) (c .before .before .register-head .ensures),
+      filled-more _ _ _ _ _ (inv .2) (c .before .month-number .ensures),
+      filled-more _ _ _ _ _ (inv .3) (c .leap-mark .ensures),
+    )
 
 add-register-head : tie.Need-add-register-head Inv-loop μ-loop
 add-register-head c = omega arith
 
 register-head-requires-2 : tie.Need-register-head-requires-2 Inv-loop μ-loop
-register-head-requires-2 c κs = (c .before .before .pre .room, omega arith, c .before .before .pre .head (c .before .before .args .count) (omega arith))
+register-head-requires-2 c κs =
+    let start = c .before .before in
+    (start .pre .room, omega arith, start .pre .head (start .args .count) (omega arith))
 
 mul-heads-2 : tie.Need-mul-heads-2 Inv-loop μ-loop
 mul-heads-2 c = omega arith
@@ -71,7 +81,15 @@ cast-t27 c = omega arith
 
 returns : tie.Need-returns Inv-loop μ-loop
 unfolding monthsFrom
-returns c = let inv = c .before .before .loop .inv in let e : c .before .before .loop .i ≡ c .before .before .before .args .count = omega arith in let heads = filled-more _ _ _ _ _ (inv .1 ∙ ap (filled _ noHeads) e) (c .register-head2 .ensures) in λ j. record { refusal = 0; count = c .before .before .before .args .count; heads = heads j; numbers = (inv .2 ∙ ap (filled _ noMarks) e) j; leaps = (inv .3 ∙ ap (filled _ noMarks) e) j }
+returns c =
+    let count = c .before .before .before .args .count in
+    let loop = c .before .before .loop in
+    let inv = loop .inv in
+    let e : loop .i ≡ count = omega arith in
+    let heads = filled-more _ _ _ _ _ (inv .1 ∙ ap (filled _ noHeads) e) (c .register-head2 .ensures) in
+    let numbers = inv .2 ∙ ap (filled _ noMarks) e in
+    let leaps = inv .3 ∙ ap (filled _ noMarks) e in
+    λ j. record { refusal = 0; count = count; heads = heads j; numbers = numbers j; leaps = leaps j }
 
 pub list-spec : {M : Type 1} → statement M
 list-spec =

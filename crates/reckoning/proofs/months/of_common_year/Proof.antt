@@ -12,7 +12,9 @@ cited-requires : tie.Need-cited-requires
 cited-requires c κs = subst (Reach (c .before .args .c)) (sym (c .years-elapsed .ensures)) (c .before .pre)
 
 returns : tie.Need-returns
-returns c = c .cited .ensures ∙ ap (λ n. monthIn (c .before .before .args .c) n (c .before .before .args .number) (c .before .before .args .leap)) (c .before .years-elapsed .ensures)
+returns c =
+    let args = c .before .before .args in
+    c .cited .ensures ∙ ap (λ n. monthIn (args .c) n (args .number) (args .leap)) (c .before .years-elapsed .ensures)
 
 pub of-common-year-spec : {M : Type 1} → statement M
 of-common-year-spec = tie.close (tie.spec years-elapsed-requires cited-requires returns)

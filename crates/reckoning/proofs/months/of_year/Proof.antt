@@ -20,13 +20,24 @@ first-month-requires-2 : tie.Need-first-month-requires-2
 first-month-requires-2 c κs = search needs
 
 sub-list : tie.Need-sub-list
-sub-list c = omega (arith, c .before .first-month .ensures, c .first-month2 .ensures, count-least (reckoned (c .before .before .args .c) (c .before .before .pre .room .consistent)) (c .before .before .args .n))
+sub-list c =
+    let start = c .before .before in
+    let K = reckoned (start .args .c) (start .pre .room .consistent) in
+    omega (arith, c .before .first-month .ensures, c .first-month2 .ensures, count-least K (start .args .n))
 
 list-requires : tie.Need-list-requires
-list-requires c κs = subst₂ (λ f m. Listed (c .before .before .args .c) f (m - f)) (sym (c .before .first-month .ensures)) (sym (c .first-month2 .ensures)) (listed _ _ (c .before .before .pre))
+list-requires c κs =
+    let start = c .before .before in
+    let first = sym (c .before .first-month .ensures) in
+    let next = sym (c .first-month2 .ensures) in
+    subst₂ (λ f m. Listed (start .args .c) f (m - f)) first next (listed _ _ (start .pre))
 
 returns : tie.Need-returns
-returns c = c .list .ensures ∙ ap₂ (λ f m. monthsFrom (c .before .before .before .args .c) f (m - f)) (c .before .before .first-month .ensures) (c .before .first-month2 .ensures)
+returns c =
+    let k = c .before .before .before .args .c in
+    let first = c .before .before .first-month .ensures in
+    let next = c .before .first-month2 .ensures in
+    c .list .ensures ∙ ap₂ (λ f m. monthsFrom k f (m - f)) first next
 
 pub of-year-spec : {M : Type 1} → statement M
 of-year-spec =

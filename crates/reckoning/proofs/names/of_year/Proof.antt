@@ -14,11 +14,16 @@ cast-names-from : tie.Need-cast-names-from
 cast-names-from c = search needs
 
 names-from-requires : tie.Need-names-from-requires
-names-from-requires c κs = subst (λ d. d .length ≤ 384) (sym (c .before .of-year .ensures)) (register-length-most _ _ (c .before .before .pre))
+names-from-requires c κs =
+    let most = register-length-most _ _ (c .before .before .pre) in
+    subst (λ d. d .length ≤ 384) (sym (c .before .of-year .ensures)) most
 
 returns : tie.Need-returns
 unfolding sheetIn
-returns c = let names = c .names-from .ensures ∙ ap (λ d. filled (nameAt (d .head .0)) noNames (d .length)) (c .before .before .of-year .ensures) in λ j. record { refusal = 0; names = names j }
+returns c =
+    let days = c .before .before .of-year .ensures in
+    let names = c .names-from .ensures ∙ ap (λ d. filled (nameAt (d .head .0)) noNames (d .length)) days in
+    λ j. record { refusal = 0; names = names j }
 
 pub of-year-spec : {M : Type 1} → statement M
 of-year-spec = tie.close (tie.spec of-year-requires cast-names-from names-from-requires returns)

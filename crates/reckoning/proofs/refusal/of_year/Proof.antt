@@ -3,32 +3,28 @@ use Rattle.reckoning.specs.Refusal.{yearRefusal}
 use borrow.Author.Needs.{needs}
 use Rattle.reckoning.proofs.refusal.of_year.Statement.{statement}
 use Rattle.reckoning.proofs.refusal.of_year.Tie as tie
-use Rattle.reckoning.proofs.refusal.of_year.Reads as reads
-use Rattle.reckoning.proofs.refusal.of_year.Lts as lts
-use Rattle.reckoning.proofs.refusal.outside.Reads as outside-reads
 
--- src/refusal.rt:14:8
 outside-requires : tie.Need-outside-requires
 outside-requires c κs = search needs
 
--- src/refusal.rt:15:9
 returns : tie.Need-returns
 unfolding yearRefusal
 returns c = simp (sym (c .before .outside .ensures) ∙ c .if1 .taken)
 
--- src/refusal.rt:17:8
 outside-requires-2 : tie.Need-outside-requires-2
 outside-requires-2 c κs = search needs
 
--- src/refusal.rt:18:9
 returns-2 : tie.Need-returns-2
 unfolding yearRefusal
-returns-2 c = simp (sym (c .before .before .before .outside .ensures) ∙ c .before .before .if1 .left, sym (c .before .outside2 .ensures) ∙ c .if2 .taken)
+returns-2 c =
+    let system-inside = sym (c .before .before .before .outside .ensures) ∙ c .before .before .if1 .left in
+    simp (system-inside, sym (c .before .outside2 .ensures) ∙ c .if2 .taken)
 
--- src/refusal.rt:11:1
 returns-3 : tie.Need-returns-3
 unfolding yearRefusal
-returns-3 c = simp (sym (c .before .before .before .outside .ensures) ∙ c .before .before .if1 .left, sym (c .before .outside2 .ensures) ∙ c .if2 .left)
+returns-3 c =
+    let system-inside = sym (c .before .before .before .outside .ensures) ∙ c .before .before .if1 .left in
+    simp (system-inside, sym (c .before .outside2 .ensures) ∙ c .if2 .left)
 
 pub of-year-spec : {M : Type 1} → statement M
 of-year-spec = tie.close (tie.spec outside-requires returns outside-requires-2 returns-2 returns-3)

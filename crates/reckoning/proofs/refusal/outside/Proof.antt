@@ -1,14 +1,10 @@
 use borrow.Author.Tests.{lt-ltb, le-ltb}
 use Rattle.reckoning.proofs.refusal.outside.Statement.{statement}
 use Rattle.reckoning.proofs.refusal.outside.Tie as tie
-use Rattle.reckoning.proofs.refusal.outside.Reads as reads
-use Rattle.reckoning.proofs.refusal.outside.Lts as lts
 
--- src/refusal.rt:5:1
 returns : tie.Need-returns
 returns c = simp (lt-ltb _ _ (c .if1 .taken))
 
--- src/refusal.rt:5:1
 returns-2 : tie.Need-returns-2
 returns-2 c = simp (le-ltb _ _ (c .if1 .left))
 

@@ -13,10 +13,14 @@ mul-moment-3 : tie.Need-mul-moment-3
 mul-moment-3 c = search needs
 
 mul-moment-4 : tie.Need-mul-moment-4
-mul-moment-4 c = omega (arith, c .before .before .before .pre .0 .qi-small (c .before .before .before .args .i) (c .before .before .before .pre .1))
+mul-moment-4 c =
+    let start = c .before .before .before in
+    omega (arith, start .pre .0 .qi-small (start .args .i) (start .pre .1))
 
 add-moment : tie.Need-add-moment
-add-moment c = omega (arith, c .before .before .before .pre .0 .qi-small (c .before .before .before .args .i) (c .before .before .before .pre .1))
+add-moment c =
+    let start = c .before .before .before in
+    omega (arith, start .pre .0 .qi-small (start .args .i) (start .pre .1))
 
 div-parts : tie.Need-div-parts
 div-parts c = search needs
@@ -25,7 +29,9 @@ div-register-day : tie.Need-div-register-day
 div-register-day c = search needs
 
 register-day-requires : tie.Need-register-day-requires
-register-day-requires c κs = c .before .before .before .before .before .pre .0 .qi-day (c .before .before .before .before .before .args .i) (c .before .before .before .before .before .pre .1)
+register-day-requires c κs =
+    let start = c .before .before .before .before .before in
+    start .pre .0 .qi-day (start .args .i) (start .pre .1)
 
 rest-requires : tie.Need-rest-requires
 rest-requires c κs = search needs
@@ -34,7 +40,10 @@ rest-requires-2 : tie.Need-rest-requires-2
 rest-requires-2 c κs = search needs
 
 returns : tie.Need-returns
-returns c = λ j. record { refusal = 0; day = c .before .before .register-day .ensures j; parts = c .before .rest .ensures j; units = c .rest2 .ensures j }
+returns c =
+    let day = c .before .before .register-day .ensures in
+    let parts = c .before .rest .ensures in
+    λ j. record { refusal = 0; day = day j; parts = parts j; units = c .rest2 .ensures j }
 
 pub qi-spec : {M : Type 1} → statement M
 qi-spec =

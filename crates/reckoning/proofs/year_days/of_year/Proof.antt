@@ -16,13 +16,26 @@ year-head-requires-2 : tie.Need-year-head-requires-2
 year-head-requires-2 c κs = (c .before .pre .room, omega arith, omega arith, next-head _ _ (c .before .pre))
 
 sub-t6 : tie.Need-sub-t6
-sub-t6 c = subst₂ (λ a b. a ≤ b) (sym (ap (λ d. d .0) (c .before .before .before .year-head .ensures))) (sym (ap (λ d. d .0) (c .before .before .year-head2 .ensures))) (register-rises _ _ (c .before .before .before .before .pre))
+sub-t6 c =
+    let head = c .before .before .before in
+    let head-is = ap (λ d. d .0) (head .year-head .ensures) in
+    let next-is = ap (λ d. d .0) (c .before .before .year-head2 .ensures) in
+    subst₂ (λ a b. a ≤ b) (sym head-is) (sym next-is) (register-rises _ _ (head .before .pre))
 
 cast-t7 : tie.Need-cast-t7
-cast-t7 c = let most = subst₂ (λ a b. b - a ≤ 384) (sym (ap (λ d. d .0) (c .before .before .before .year-head .ensures))) (sym (ap (λ d. d .0) (c .before .before .year-head2 .ensures))) (register-length-most _ _ (c .before .before .before .before .pre)) in omega arith
+cast-t7 c =
+    let head = c .before .before .before in
+    let head-is = ap (λ d. d .0) (head .year-head .ensures) in
+    let next-is = ap (λ d. d .0) (c .before .before .year-head2 .ensures) in
+    let most = subst₂ (λ a b. b - a ≤ 384) (sym head-is) (sym next-is) (register-length-most _ _ (head .before .pre)) in
+    omega arith
 
 returns : tie.Need-returns
-returns c = let length = ap₂ (λ a b. b - a) (ap (λ d. d .0) (c .before .before .before .year-head .ensures)) (ap (λ d. d .0) (c .before .before .year-head2 .ensures)) in λ j. record { refusal = 0; head = c .before .before .before .year-head .ensures j; length = length j }
+returns c =
+    let head = c .before .before .before .year-head .ensures in
+    let next = c .before .before .year-head2 .ensures in
+    let length = ap₂ (λ a b. b - a) (ap (λ d. d .0) head) (ap (λ d. d .0) next) in
+    λ j. record { refusal = 0; head = head j; length = length j }
 
 pub of-year-spec : {M : Type 1} → statement M
 of-year-spec =
