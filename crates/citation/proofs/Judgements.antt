@@ -1,11 +1,12 @@
 -- The cases of each kind's judgement: refused by the reckoning, at a wrong place, or accepted.
-use Prim.Native.Nat.{ℕ, _+_, _-_, _≤_, _<_}
+use Prim.Native.Nat.{ℕ, _+_, _-_, _%_, _≤_, _<_}
 use mathlib.Core.Path.{_≡_, ap, _∙_}
 use mathlib.Core.Bool.{Bool, true, false, _||_}
 use mathlib.Core.List.{List}
 use native.Mathlib.Omega.{arith}
 use lib.ListN.{length}
 use Rattle.reckoning.proofs.Refusals.{inside-of}
+use Rattle.calendar.specs.Name.{nameOf}
 use Rattle.calendar.proofs.Rising.{by-order}
 use Rattle.citation.specs.Record.{lengthField, kindOf, systemOf, kindLength, yearField, monthField, leapField, dayField, nameField, ordinalField, registerDayField}
 use Rattle.citation.specs.JudgeInputs.{Whole}
@@ -112,6 +113,15 @@ module _ (system year month leap name : ℕ) (m : Month) (e : m ≡ monthOf syst
   pub name-right : m .refusal ≡ 0 → name ≤ 59 → days < m .length → on-name ≡ judgeName system year month leap name
   name-right z h l =
       right-place (m .refusal) name-wrong on-name z (simp (le-ltb 59 name h, lt-leb (m .length) days l)) ∙ name-in-month
+
+  -- the same, with the name of the month's first day at hand
+  pub name-right-from : (first : ℕ) → first ≡ nameOf (m .head .0) → m .refusal ≡ 0 → name ≤ 59
+      → (name + 60 - first) % 60 < m .length
+      → accept (m .head .0 + (name + 60 - first) % 60) system year month leap ((name + 60 - first) % 60 + 1)
+      ≡ judgeName system year month leap name
+  name-right-from first is z h l =
+      ap (λ n. accept (m .head .0 + (name + 60 - n) % 60) system year month leap ((name + 60 - n) % 60 + 1)) is
+      ∙ name-right z h (omega arith)
 
 -- Which judgement a kind gets.
 module _ (s : List ℕ) where

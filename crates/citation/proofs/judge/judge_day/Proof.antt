@@ -1,11 +1,18 @@
-use mathlib.Core.Path.{sym, _∙_}
+use mathlib.Core.Path.{_≡_, sym, _∙_}
+use mathlib.Core.Bool.{false}
 use native.Mathlib.Omega.{arith}
+use Rattle.reckoning.specs.Refusal.{outside}
 use Rattle.reckoning.proofs.Refusals.{inside-of}
 use Rattle.reckoning.proofs.Fits.{month-fits}
 use Rattle.citation.proofs.Judgements.{month-refused, day-wrong, day-right}
 use borrow.Author.Needs.{needs}
 use Rattle.citation.proofs.judge.judge_day.Statement.{statement}
 use Rattle.citation.proofs.judge.judge_day.Tie as tie
+
+day-inside : (c : tie.Else2) →
+    let month = c .before .before .before .before .before in
+    outside 1 (month .month .result .length) (month .before .args .day) ≡ false
+day-inside c = sym (c .before .outside .ensures) ∙ c .if2 .left
 
 month-requires : tie.Need-month-requires
 month-requires c κs = search needs
@@ -26,19 +33,34 @@ refuse-requires-2 : tie.Need-refuse-requires-2
 refuse-requires-2 c κs = search needs
 
 returns-2 : tie.Need-returns-2
-returns-2 c = c .refuse2 .ensures ∙ day-wrong _ _ _ _ _ _ (c .before .before .before .before .before .before .month .ensures) (c .before .before .before .before .if1 .left) (sym (c .before .before .outside .ensures) ∙ c .before .if2 .taken)
+returns-2 c =
+    let test = c .before .before in
+    let accepted = test .before .before in
+    let wrong = sym (test .outside .ensures) ∙ c .before .if2 .taken in
+    c .refuse2 .ensures ∙ day-wrong _ _ _ _ _ _ (accepted .before .before .month .ensures) (accepted .if1 .left) wrong
 
 add-accept : tie.Need-add-accept
-add-accept c = let small = month-fits _ _ _ _ _ (c .before .before .before .before .before .before .month .ensures) (c .before .before .before .before .if1 .left) in omega (arith, c .before .before .before .before .before .before .before .pre)
+add-accept c =
+    let accepted = c .before .before .before .before in
+    let month = accepted .before .before in
+    let small = month-fits _ _ _ _ _ (month .month .ensures) (accepted .if1 .left) in
+    omega (arith, month .before .pre)
 
 sub-accept : tie.Need-sub-accept
-sub-accept c = let least = inside-of 1 (c .before .before .before .before .before .before .month .result .length) (c .before .before .before .before .before .before .before .args .day) (sym (c .before .before .outside .ensures) ∙ c .before .if2 .left) in omega arith
+sub-accept c =
+    let month = c .before .before .before .before .before .before in
+    let least = inside-of 1 (month .month .result .length) (month .before .args .day) (day-inside (c .before)) in
+    omega arith
 
 accept-requires : tie.Need-accept-requires
 accept-requires c κs = search needs
 
 returns-3 : tie.Need-returns-3
-returns-3 c = c .accept .ensures ∙ day-right _ _ _ _ _ _ (c .before .before .before .before .before .before .before .month .ensures) (c .before .before .before .before .before .if1 .left) (sym (c .before .before .before .outside .ensures) ∙ c .before .before .if2 .left)
+returns-3 c =
+    c .accept .ensures
+    ∙ (let inside = c .before .before in
+    let accepted = inside .before .before .before in
+    day-right _ _ _ _ _ _ (accepted .before .before .month .ensures) (accepted .if1 .left) (day-inside inside))
 
 pub judge-day-spec : {M : Type 1} → statement M
 judge-day-spec =

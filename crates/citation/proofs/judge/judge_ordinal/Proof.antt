@@ -1,11 +1,26 @@
-use mathlib.Core.Path.{sym, _∙_}
+use mathlib.Core.Path.{_≡_, sym, _∙_}
+use mathlib.Core.Bool.{false}
 use native.Mathlib.Omega.{arith}
+use Rattle.calendar.specs.Inside.{Inside}
+use Rattle.reckoning.specs.Refusal.{outside}
 use Rattle.reckoning.proofs.Refusals.{inside-of}
 use Rattle.reckoning.proofs.Fits.{days-fit}
 use Rattle.citation.proofs.Judgements.{year-refused, ordinal-wrong, ordinal-right}
 use borrow.Author.Needs.{needs}
 use Rattle.citation.proofs.judge.judge_ordinal.Statement.{statement}
 use Rattle.citation.proofs.judge.judge_ordinal.Tie as tie
+
+ordinal-inside : (c : tie.Else2) →
+    let year = c .before .before .before .before .before .before in
+    outside 1 (year .days .result .length) (year .before .args .ordinal .0) ≡ false
+ordinal-inside c = sym (c .before .outside .ensures) ∙ c .if2 .left
+
+ordinal-placed : (c : tie.Else2) →
+    let year = c .before .before .before .before .before .before in
+    Inside 1 (year .days .result .length) (year .before .args .ordinal .0)
+ordinal-placed c =
+    let year = c .before .before .before .before .before .before in
+    inside-of 1 (year .days .result .length) (year .before .args .ordinal .0) (ordinal-inside c)
 
 days-requires : tie.Need-days-requires
 days-requires c κs = search needs
@@ -29,22 +44,34 @@ refuse-requires-2 : tie.Need-refuse-requires-2
 refuse-requires-2 c κs = search needs
 
 returns-2 : tie.Need-returns-2
-returns-2 c = c .refuse2 .ensures ∙ ordinal-wrong _ _ _ _ (c .before .before .before .before .before .before .before .days .ensures) (c .before .before .before .before .before .if1 .left) (sym (c .before .before .outside .ensures) ∙ c .before .if2 .taken)
+returns-2 c =
+    let test = c .before .before in
+    let accepted = test .before .before .before in
+    let wrong = sym (test .outside .ensures) ∙ c .before .if2 .taken in
+    c .refuse2 .ensures ∙ ordinal-wrong _ _ _ _ (accepted .before .before .days .ensures) (accepted .if1 .left) wrong
 
 cast-t7 : tie.Need-cast-t7
 cast-t7 c = search needs
 
 add-t8 : tie.Need-add-t8
-add-t8 c = let small = days-fit _ _ _ (c .before .before .before .before .before .before .before .before .days .ensures) (c .before .before .before .before .before .before .if1 .left) in let most = inside-of 1 (c .before .before .before .before .before .before .before .before .days .result .length) (c .before .before .before .before .before .before .before .before .before .args .ordinal .0) (sym (c .before .before .before .outside .ensures) ∙ c .before .before .if2 .left) in omega arith
+add-t8 c =
+    let inside = c .before .before in
+    let accepted = inside .before .before .before .before in
+    let small = days-fit _ _ _ (accepted .before .before .days .ensures) (accepted .if1 .left) in
+    omega (arith, ordinal-placed inside)
 
 sub-t9 : tie.Need-sub-t9
-sub-t9 c = let least = inside-of 1 (c .before .before .before .before .before .before .before .before .days .result .length) (c .before .before .before .before .before .before .before .before .before .args .ordinal .0) (sym (c .before .before .before .outside .ensures) ∙ c .before .before .if2 .left) in omega arith
+sub-t9 c = omega (arith, ordinal-placed (c .before .before))
 
 judge-register-day-requires : tie.Need-judge-register-day-requires
 judge-register-day-requires c κs = search needs
 
 returns-3 : tie.Need-returns-3
-returns-3 c = c .judge-register-day .ensures ∙ ordinal-right _ _ _ _ (c .before .before .before .before .before .before .before .before .before .days .ensures) (c .before .before .before .before .before .before .before .if1 .left) (sym (c .before .before .before .before .outside .ensures) ∙ c .before .before .before .if2 .left)
+returns-3 c =
+    c .judge-register-day .ensures
+    ∙ (let inside = c .before .before .before in
+    let accepted = inside .before .before .before .before in
+    ordinal-right _ _ _ _ (accepted .before .before .days .ensures) (accepted .if1 .left) (ordinal-inside inside))
 
 pub judge-ordinal-spec : {M : Type 1} → statement M
 judge-ordinal-spec =

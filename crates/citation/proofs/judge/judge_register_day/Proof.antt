@@ -29,7 +29,10 @@ accept-requires : tie.Need-accept-requires
 accept-requires c κs = search needs
 
 returns-2 : tie.Need-returns-2
-returns-2 c = c .accept .ensures ∙ date-accepted _ _ _ (c .before .before .before .before .before .before .before .date .ensures) (c .before .before .before .before .before .if1 .left)
+returns-2 c =
+    c .accept .ensures
+    ∙ (let accepted = c .before .before .before .before .before in
+    date-accepted _ _ _ (accepted .before .before .date .ensures) (accepted .if1 .left))
 
 pub judge-register-day-spec : {M : Type 1} → statement M
 judge-register-day-spec =
