@@ -13,12 +13,16 @@ use Rattle.calendar.specs.Month.{monthHead, InMonth, monthLength, Holds,
 use Rattle.calendar.specs.Year.{Span, monthCount, yearHead, nextHead, yearLength, lengthsFrom, InYear, DayOfYear, MonthNamed}
 use Rattle.calendar.specs.Consistent.{Consistent}
 use Rattle.calendar.specs.Calendar.{Calendar}
-use Rattle.calendar.specs.ClosedForms.{monthOfQi, qiOfMonth, monthOfDay, yearOfMonth, monthNumber, leapMark, qiOfNumber, monthCited, leapFollows}
+use Rattle.calendar.specs.ClosedForms.{monthOfQi, qiOfMonth, monthOfDay, yearOfMonth, monthNumber, leapMark}
+use Rattle.calendar.specs.ClosedForms.{qiOfNumber, monthCited, leapFollows}
 use Rattle.calendar.proofs.Rising.{by-order}
-use Rattle.calendar.proofs.Months.{behind-most, head-monotone, month-from, month-before, month-unique, qi-unique, qi-of-held, count-least, count-most, in-its-year, year-unique, month-again, twelve-hold, thirteen-one-lacks}
+use Rattle.calendar.proofs.Months.{behind-most, head-monotone, month-from, month-before, month-unique}
+use Rattle.calendar.proofs.Months.{qi-unique, qi-of-held, count-least, count-most, in-its-year, year-unique}
+use Rattle.calendar.proofs.Months.{month-again, twelve-hold, thirteen-one-lacks}
 use Rattle.calendar.proofs.Reckoned.{reckoned}
 use Rattle.calendar.proofs.Spans.{span, span-first, span-next, in-year, within}
-use Rattle.calendar.proofs.Numbers.{month-of-held, held-of-holds, holds-of-held, number-unique, bears-its-number, mark-unique, marked}
+use Rattle.calendar.proofs.Numbers.{month-of-held, held-of-holds, holds-of-held}
+use Rattle.calendar.proofs.Numbers.{number-unique, bears-its-number, mark-unique, marked}
 
 module _ (c : Constants) (ok : Consistent c) where
   abbrev K : Calendar
@@ -91,7 +95,14 @@ module _ (c : Constants) (ok : Consistent c) where
   months-cover n d y =
       record {
         it = monthOfDay c d;
-        has = (record { span = y .span; from = month-from K (y .span .first) d (y .from); before = month-before K (y .span .next) d (y .before) }, (K .day-from d, K .day-before d));
+        has = (
+          record {
+            span = y .span;
+            from = month-from K (y .span .first) d (y .from);
+            before = month-before K (y .span .next) d (y .before);
+          },
+          (K .day-from d, K .day-before d),
+        );
         only = λ k p. month-unique K k d (p .1 .0) (p .1 .1);
       }
 
@@ -189,7 +200,8 @@ module _ (c : Constants) (ok : Consistent c) where
       let w = within c ok n k (p .in-year) in
       let e : qiOfMonth c k ≡ qiOfNumber n number = omega (arith, number-unique c ok (p .bears), year-unique K n k w) in
       let f = ap (λ g. monthOfQi c (g + 1)) e in
-      lt-ltb (monthOfQi c (qiOfNumber n number) + 1) (monthOfQi c (qiOfNumber n number + 1)) (omega (arith, cited-unique n number 1 k b p, K .qi-before k))
+      lt-ltb (monthOfQi c (qiOfNumber n number) + 1) (monthOfQi c (qiOfNumber n number + 1))
+      (omega (arith, cited-unique n number 1 k b p, K .qi-before k))
 
   -- The month that the closed form names has the number and the mark.
   cited-here : (n number mark : ℕ) → Inside 1 12 number

@@ -6,7 +6,8 @@ use native.Mathlib.Decide.{ℕ-discrete}
 use native.Mathlib.Omega.{arith}
 use Rattle.calendar.specs.ExactlyOne.{ExactlyOne}
 use Rattle.calendar.specs.Calendar.{Calendar}
-use Rattle.calendar.proofs.Rising.{by-order, rises-by, monotone, rises-strictly, below-back, place-unique, even-rise, double-step, DoubleStep}
+use Rattle.calendar.proofs.Rising.{by-order, rises-by, monotone, rises-strictly, below-back, place-unique}
+use Rattle.calendar.proofs.Rising.{even-rise, double-step, DoubleStep}
 
 -- The month that year n begins with, and whether month k is one of that year.
 abbrev pub first : Calendar → ℕ → ℕ
@@ -80,13 +81,17 @@ module _ (K : Calendar) where
   behind-most k = omega (arith, K .qi-before k, qi-step-most (K .qiOfMonth k))
 
   pub qi-of-month-most : (k : ℕ) → K .qiOfMonth k ≤ k
-  qi-of-month-most k = omega (arith, rises-by (K .monthOfQi) (K .qi-rises) (K .qiOfMonth k) 0, K .qi-from k, ap (K .monthOfQi) (zero-add (K .qiOfMonth k)))
+  qi-of-month-most k =
+      let g = K .qiOfMonth k in
+      omega (arith, rises-by (K .monthOfQi) (K .qi-rises) g 0, K .qi-from k, ap (K .monthOfQi) (zero-add g))
 
   -- a month that holds none has the last middle qi of the month before
   pub qi-of-lacking : (k : ℕ) → (Held K (k + 1) → ⊥) → K .qiOfMonth (k + 1) ≡ K .qiOfMonth k
   qi-of-lacking k lacks =
       qi-unique (K .qiOfMonth (k + 1)) k
-      (by-order (K .monthOfQi (K .qiOfMonth (k + 1))) (k + 1) (λ l. omega arith) (λ l. absurd (lacks (omega (arith, K .qi-from (k + 1))))))
+      (by-order (K .monthOfQi (K .qiOfMonth (k + 1))) (k + 1)
+      (λ l. omega arith)
+      (λ l. absurd (lacks (omega (arith, K .qi-from (k + 1))))))
       (omega (arith, K .qi-before (k + 1)))
 
   -- Years and months.
@@ -159,7 +164,8 @@ module _ (K : Calendar) where
     passed-over-lacks : Held K passed-over → ⊥
     unfolding passed-over
     passed-over-lacks h =
-        let e : 12 * n + double .at ≡ K .qiOfMonth passed-over = qi-unique (12 * n + double .at) passed-over (omega (arith, double)) (omega (arith, double)) in
+        let g = 12 * n + double .at in
+        let e : g ≡ K .qiOfMonth passed-over = qi-unique g passed-over (omega (arith, double)) (omega (arith, double)) in
         omega (arith, double, ap (K .monthOfQi) e)
 
     -- up to it each month holds the middle qi of its place

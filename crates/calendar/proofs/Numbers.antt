@@ -2,7 +2,8 @@
 use Prim.Native.Nat.{ℕ, zero, suc, _+_, _*_, _-_, _/_, _%_, _≤_, _<_}
 use mathlib.Core.Path.{_≡_, _∙_, subst, sym, ap}
 use mathlib.Core.Logic.{_⊎_, inl, inr, ⊎-elim}
-use native.Mathlib.Nat.{le-div-iff-mul-le, div-lt-iff-lt-mul, div-mul-le-self, lt-div-mul-add, le-of-mul-le-mul-right, lt-of-mul-lt-mul-right, mul-le-mul-right, mul-lt-mul-of-pos-right}
+use native.Mathlib.Nat.{le-div-iff-mul-le, div-lt-iff-lt-mul, div-mul-le-self, lt-div-mul-add}
+use native.Mathlib.Nat.{le-of-mul-le-mul-right, lt-of-mul-lt-mul-right, mul-le-mul-right, mul-lt-mul-of-pos-right}
 use native.Mathlib.Omega.{arith}
 use Rattle.calendar.specs.declared.data.Constants.{Constants}
 use Rattle.calendar.specs.Month.{middleQi, Holds, HoldsSome, Lacks, numberOf, Bears, ordinary, leap, Marked}
@@ -64,7 +65,8 @@ module _ (c : Constants) (ok : Consistent c) where
   -- The number that a month bears is the closed form's, and no other.
   number-of-held : {k : ℕ} (h : HoldsSome c k) → numberOf (h .index) ≡ monthNumber c k
   number-of-held {k} h =
-      let e : 12 * h .year + h .index ≡ qiOfMonth c k = qi-of-held K (12 * h .year + h .index) k (month-of-held k (h .year) (h .index) (h .holds)) in
+      let g = 12 * h .year + h .index in
+      let e : g ≡ qiOfMonth c k = qi-of-held K g k (month-of-held k (h .year) (h .index) (h .holds)) in
       ap numberOf (omega (arith, h .is-middle))
 
   number-of-lacking : (k : ℕ) → Lacks c (k + 1) → monthNumber c (k + 1) ≡ monthNumber c k
@@ -78,7 +80,9 @@ module _ (c : Constants) (ok : Consistent c) where
       ∙ ap (monthNumber c) (sym e)
 
   pub bears-its-number : (k : ℕ) → Bears c k (monthNumber c k)
-  bears-its-number zero = ordinary (holds-of-held 0 (omega (arith, K .qi-from 0))) (sym (number-of-held (holds-of-held 0 (omega (arith, K .qi-from 0)))))
+  bears-its-number zero =
+      let held = holds-of-held 0 (omega (arith, K .qi-from 0)) in
+      ordinary held (sym (number-of-held held))
   bears-its-number (suc k) =
       by-held K (suc k)
       (λ h. ordinary (holds-of-held (suc k) h) (sym (number-of-held (holds-of-held (suc k) h))))

@@ -58,11 +58,13 @@ picks-guantian system e = simp (eq-eqb system 1 e)
 pub picks-jiyuan : (system : ℕ) → (system ≡ 1 → ⊥) → constantsOf system ≡ jiyuan
 picks-jiyuan system h = simp (ne-eqb system 1 h)
 
-pub reach-here : (system year : ℕ) (c : Constants) → constantsOf system ≡ c → yearRefusal system year ≡ 0 → Reach c (yearsElapsed c year)
+pub reach-here : (system year : ℕ) (c : Constants) → constantsOf system ≡ c → yearRefusal system year ≡ 0
+    → Reach c (yearsElapsed c year)
 reach-here system year c e z =
     subst (λ k. Reach k (yearsElapsed k year)) e (reach system year ((accepted system year z) .year-inside))
 
 -- What is asked in scope lies within the register.
-pub within-reach : (a : Asked) (refusal system year : ℕ) → a ≡ askedOf refusal system year → InScope system year → Reach (a .c) (a .n)
+pub within-reach : (a : Asked) (refusal system year : ℕ) → a ≡ askedOf refusal system year → InScope system year
+    → Reach (a .c) (a .n)
 within-reach a refusal system year e s =
     subst (λ x. Reach (x .c) (x .n)) (sym e) (reach system year (s .year-inside))

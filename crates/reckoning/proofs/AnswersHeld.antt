@@ -16,7 +16,8 @@ use Rattle.reckoning.specs.Scope.{InScope}
 use Rattle.reckoning.specs.Refusal.{yearRefusal, qiRefusal}
 use Rattle.reckoning.specs.Asked.{askedOf}
 use Rattle.reckoning.specs.Room.{Reach}
-use Rattle.reckoning.specs.Requests.{solsticeIn, noSolstice, solsticeOf, qiIn, noQi, qiOf, nameAt, noNames, sheetIn, noSheet, sheetOf}
+use Rattle.reckoning.specs.Requests.{solsticeIn, noSolstice, solsticeOf, qiIn, noQi, qiOf}
+use Rattle.reckoning.specs.Requests.{nameAt, noNames, sheetIn, noSheet, sheetOf}
 use Rattle.reckoning.specs.Held.{IsSolstice, IsQi, IsSheet}
 use Rattle.reckoning.proofs.Fill.{filled-below, filled-past, filled-length}
 use Rattle.reckoning.proofs.Refusals.{in-scope, in-scope-qi}
@@ -47,9 +48,10 @@ module _ (system year : ℕ) (s : InScope system year) where
       let t = told c (consistent system) (qi c n i) in
       let d = r .qi-day i h in
       let exact : registerDay c (dayOf c (qi c n i)) + c .anchor ≡ dayOf c (qi c n i) = omega (arith, d) in
+      let moment = ap (λ d. (d * c .day + partsOf c (qi c n i)) * c .units + unitsOf c (qi c n i)) exact ∙ sym (t .whole) in
       subst (IsQi c n i)
       (answered (λ k m. qiIn k m i) noQi (askedOf (qiRefusal system year i) system year) _ refl (in-scope-qi system year i s h))
-      (record { accepted = refl; moment = ap (λ d. (d * c .day + partsOf c (qi c n i)) * c .units + unitsOf c (qi c n i)) exact ∙ sym (t .whole); parts-below = t .parts-below; units-below = t .units-below })
+      (record { accepted = refl; moment = moment; parts-below = t .parts-below; units-below = t .units-below })
 
   pub sheet-holds : IsSheet c n (sheetOf system year)
   unfolding sheetOf sheetIn

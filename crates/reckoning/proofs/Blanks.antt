@@ -8,7 +8,8 @@ use Rattle.calendar.proofs.Rising.{by-order}
 use Rattle.reckoning.specs.Rows.{FirstOf, yearRows, qiRows}
 use Rattle.reckoning.specs.Refusal.{yearRefusal, qiRefusal}
 use Rattle.reckoning.specs.Asked.{askedOf}
-use Rattle.reckoning.specs.Requests.{answerUnless, solsticeIn, noSolstice, solsticeOf, qiIn, noQi, qiOf, yearIn, noYear, yearOf, sheetIn, noSheet, sheetOf}
+use Rattle.reckoning.specs.Requests.{answerUnless, solsticeIn, noSolstice, solsticeOf, qiIn, noQi, qiOf}
+use Rattle.reckoning.specs.Requests.{yearIn, noYear, yearOf, sheetIn, noSheet, sheetOf}
 use Rattle.reckoning.proofs.Refusals.{by-scope, in-scope, in-scope-qi, qi-unseen, qi-nine}
 use Rattle.reckoning.proofs.Answers.{refused}
 

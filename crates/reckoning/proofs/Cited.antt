@@ -39,7 +39,8 @@ module _ (c : Constants) (n number leap : ℕ) where
       let one : 1 ≡ leap = omega (arith, inside-of 0 1 leap f) in
       subst (λ x. monthAt c (monthOfQi c (qiOfNumber n number) + 1) ≡ monthIn c n number x) one (simp (e, l))
 
-  pub leap-lacks : outside 1 12 number ≡ false → outside 0 1 leap ≡ false → (leap ≡ 0 → ⊥) → leapFollows c n number ≡ false
+  pub leap-lacks : outside 1 12 number ≡ false → outside 0 1 leap ≡ false → (leap ≡ 0 → ⊥)
+      → leapFollows c n number ≡ false
       → noMonth 6 ≡ monthIn c n number leap
   unfolding monthIn
   leap-lacks e f z l =

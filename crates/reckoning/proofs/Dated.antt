@@ -92,7 +92,8 @@ module _ (c : Constants) (room : Room c) (r k g : ℕ) (month : k ≡ monthOfDay
   unfolding dateIn
   date-late h = simp (too-late c room r (omega (arith, year-is)))
 
-  pub date-in-time : c .elapsed < g / 12 + c .common → g / 12 + c .common ≤ c .elapsed + 3000 → dateAt c (r + c .anchor) ≡ dateIn c r
+  pub date-in-time : c .elapsed < g / 12 + c .common → g / 12 + c .common ≤ c .elapsed + 3000
+      → dateAt c (r + c .anchor) ≡ dateIn c r
   unfolding dateIn
   date-in-time a b = simp (in-time c room r (omega (arith, year-is)) (omega (arith, year-is)))
 

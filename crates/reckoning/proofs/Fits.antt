@@ -49,7 +49,8 @@ days-fit system year v e z = go (subst (DaysOutcome system year) (sym e) (days-o
         let c = constantsOf system in
         let n = yearsElapsed c year in
         let ok = consistent system in
+        let head = first-head c n (reach system year (y .in-scope .year-inside)) in
         record {
-          head-small = omega (arith, first-head c n (reach system year (y .in-scope .year-inside)), ap (monthHead c) (span-first c ok (y .span)));
+          head-small = omega (arith, head, ap (monthHead c) (span-first c ok (y .span)));
           length-most = omega (arith, year-length-most c ok (y .span));
         }

@@ -32,11 +32,15 @@ use Rattle.reckoning.proofs.InReach.{listed}
 
 -- Year n within the register.
 module _ (c : Constants) (n : ℕ) (r : Reach c n) where
-  head-at : (i : ℕ) → i ≤ firstMonth c (n + 1) - firstMonth c n → headIn (yearIn c n) i + c .anchor ≡ monthHead c (firstMonth c n + i)
+  head-at : (i : ℕ) → i ≤ firstMonth c (n + 1) - firstMonth c n
+      → headIn (yearIn c n) i + c .anchor ≡ monthHead c (firstMonth c n + i)
   unfolding monthsFrom
   head-at i h =
+      let f = firstMonth c n in
+      let m = firstMonth c (n + 1) - f in
       let l = listed c n r in
-      let e = filled-below (headAt c (firstMonth c n)) noHeads (asRegisterDay 0) (firstMonth c (n + 1) - firstMonth c n + 1) i (omega arith) (omega (arith, l .count-most)) in
+      let small = l .count-most in
+      let e = filled-below (headAt c f) noHeads (asRegisterDay 0) (m + 1) i (omega arith) (omega arith) in
       omega (arith, ap (λ d. d .0) e, l .head i h)
 
   pub holds-year : ListsMonths c n (yearIn c n)
@@ -46,6 +50,7 @@ module _ (c : Constants) (n : ℕ) (r : Reach c n) where
       let f = firstMonth c n in
       let m = firstMonth c (n + 1) - f in
       let l = listed c n r in
+      let small = l .count-most in
       let e : f + m ≡ firstMonth c (n + 1) = omega (arith, count-least (reckoned c ok) n) in
       record {
         accepted = refl;
@@ -58,9 +63,15 @@ module _ (c : Constants) (n : ℕ) (r : Reach c n) where
         count = refl;
         head = λ i h. head-at i (omega arith);
         next = head-at m (omega arith) ∙ ap (monthHead c) e;
-        number = λ i h. subst (Bears c (f + i)) (sym (filled-below (numberAt c f) noMarks 0 m i h (omega (arith, l .count-most)))) (bears-its-number c ok (f + i));
-        leap = λ i h. subst (Marked c (f + i)) (sym (filled-below (leapAt c f) noMarks 0 m i h (omega (arith, l .count-most)))) (marked c ok (f + i));
-        unused-head = λ i h. ap (λ d. d .0) (filled-past (headAt c f) noHeads (asRegisterDay 0) (m + 1) i (omega arith) ∙ replicate-reads (asRegisterDay 0) 14 i);
+        number = λ i h.
+            let e = filled-below (numberAt c f) noMarks 0 m i h (omega arith) in
+            subst (Bears c (f + i)) (sym e) (bears-its-number c ok (f + i));
+        leap = λ i h.
+            let e = filled-below (leapAt c f) noMarks 0 m i h (omega arith) in
+            subst (Marked c (f + i)) (sym e) (marked c ok (f + i));
+        unused-head = λ i h.
+            let e = filled-past (headAt c f) noHeads (asRegisterDay 0) (m + 1) i (omega arith) in
+            ap (λ d. d .0) (e ∙ replicate-reads (asRegisterDay 0) 14 i);
         unused-number = λ i h. filled-past (numberAt c f) noMarks 0 m i h ∙ replicate-reads 0 14 i;
         unused-leap = λ i h. filled-past (leapAt c f) noMarks 0 m i h ∙ replicate-reads 0 14 i;
       }
@@ -78,19 +89,25 @@ module _ (c : Constants) (ok : Consistent c) (n : ℕ) (v : Year) (y : ListsMont
       subst (λ x. headIn v x + c .anchor ≡ monthHead c (y .span .first + x)) (sym e) (y .next ∙ ap (monthHead c) (sym last)))
 
   head-after : (i : ℕ) → i < v .count → headIn v (i + 1) + c .anchor ≡ monthHead c (y .span .first + i + 1)
-  head-after i h = let e : y .span .first + (i + 1) ≡ y .span .first + i + 1 = omega arith in head-upto (i + 1) (omega arith) ∙ ap (monthHead c) e
+  head-after i h =
+      let e : y .span .first + (i + 1) ≡ y .span .first + i + 1 = omega arith in
+      head-upto (i + 1) (omega arith) ∙ ap (monthHead c) e
 
   place-in-year : (i : ℕ) → i < v .count → InYear c n (y .span .first + i)
   place-in-year i h = record { span = y .span; from = omega arith; before = omega (arith, last) }
 
   -- Where a month of the year stands in the value.
   placed : (k : ℕ) → InYear c n k → (k - y .span .first < v .count) × (y .span .first + (k - y .span .first) ≡ k)
-  placed k in-year = omega (arith, last, in-year .from, in-year .before, span-first c ok (in-year .span), span-next c ok (in-year .span), span-first c ok (y .span), span-next c ok (y .span))
+  placed k in-year =
+      let first = span-first c ok (in-year .span) ∙ sym (span-first c ok (y .span)) in
+      let next = span-next c ok (in-year .span) ∙ sym (span-next c ok (y .span)) in
+      omega (arith, last, in-year .from, in-year .before)
 
   day-in : (i r : ℕ) → i < v .count → headIn v i ≤ r → r < headIn v (i + 1) → InMonth c (y .span .first + i) (r + c .anchor)
   day-in i r h a b = (omega (arith, head-upto i (omega arith)), omega (arith, head-after i h))
 
-  tile : (r : ℕ) → headIn v 0 ≤ r → r < headIn v (v .count) → ExactlyOne (λ i. (i < v .count) × (headIn v i ≤ r) × (r < headIn v (i + 1)))
+  tile : (r : ℕ) → headIn v 0 ≤ r → r < headIn v (v .count)
+      → ExactlyOne (λ i. (i < v .count) × (headIn v i ≤ r) × (r < headIn v (i + 1)))
   tile r a b =
       let e : y .span .first + 0 ≡ y .span .first = omega arith in
       let day : DayOfYear c n (r + c .anchor) =
@@ -124,9 +141,10 @@ module _ (c : Constants) (ok : Consistent c) (n : ℕ) (v : Year) (y : ListsMont
             (month-days c ok (y .span .first + i));
         tile = tile;
         twelve = λ e i h.
+            let none-lacks = twelve-none-lacks c ok (y .span) (sym (y .count) ∙ e) in
             ⊎-elim
             (λ p. p .0)
-            (λ p. absurd (p .1 (twelve-none-lacks c ok (y .span) (sym (y .count) ∙ e) (y .span .first + i) (place-in-year i (omega arith)))))
+            (λ p. absurd (p .1 (none-lacks (y .span .first + i) (place-in-year i (omega arith)))))
             (y .leap i (omega arith));
         thirteen = λ e.
             let one = thirteen-one-leap c ok (y .span) (sym (y .count) ∙ e) in

@@ -86,33 +86,34 @@ month-outcome system year number leap =
     let c = constantsOf system in
     let n = yearsElapsed c year in
     let ok = consistent system in
+    let answer = month-answered system year number leap in
     by-scope system year
     (λ no-system e. O.MonthOutcome.system-refused no-system (month-refused system year number leap 4 e (omega arith)))
     (λ s no-year e. O.MonthOutcome.year-refused s no-year (month-refused system year number leap 5 e (omega arith)))
     (λ s.
     by-inside 1 12 number
-    (λ e no-number. O.MonthOutcome.month-refused s (inl no-number) (sym (number-wrong c n number leap e ∙ month-answered system year number leap s)))
+    (λ e no-number. O.MonthOutcome.month-refused s (inl no-number) (sym (number-wrong c n number leap e ∙ answer s)))
     (λ e number-inside.
     by-inside 0 1 leap
-    (λ f no-mark. O.MonthOutcome.month-refused s (inr (inl no-mark)) (sym (mark-wrong c n number leap e f ∙ month-answered system year number leap s)))
+    (λ f no-mark. O.MonthOutcome.month-refused s (inr (inl no-mark)) (sym (mark-wrong c n number leap e f ∙ answer s)))
     (λ f mark-inside.
     by-order leap 1
     (λ l.
     let zero-mark : leap ≡ 0 = omega arith in
     found-month system year number leap (monthCited c n number 0) s number-inside mark-inside
     (subst (λ x. MonthNamed c n number x (monthCited c n number 0)) (sym zero-mark) (ordinary-cited c ok n number number-inside))
-    (ap (monthAt c) (omega arith) ∙ ordinary-month c n number leap e f zero-mark ∙ month-answered system year number leap s))
+    (ap (monthAt c) (omega arith) ∙ ordinary-month c n number leap e f zero-mark ∙ answer s))
     (λ l.
     let one : leap ≡ 1 = omega arith in
     by-bool (leapFollows c n number)
     (λ g.
     found-month system year number leap (monthCited c n number 1) s number-inside mark-inside
     (subst (λ x. MonthNamed c n number x (monthCited c n number 1)) (sym one) (leap-cited c ok n number number-inside g))
-    (leap-month c n number leap e f (λ z. omega arith) g ∙ month-answered system year number leap s))
+    (leap-month c n number leap e f (λ z. omega arith) g ∙ answer s))
     (λ g.
     O.MonthOutcome.month-refused s
     (inr (inr (one, λ h. true≢false (sym (leap-follows c ok n number (h .month) (number-inside .at-most) (h .is-leap)) ∙ g))))
-    (sym (leap-lacks c n number leap e f (λ z. omega arith) g ∙ month-answered system year number leap s)))))))
+    (sym (leap-lacks c n number leap e f (λ z. omega arith) g ∙ answer s)))))))
 
 neither : (a b c d : ℕ) → ltb a b || leb c d ≡ false → (b ≤ a) × (d < c)
 neither a b c d e = go (ltb a b) (leb c d) refl refl e
@@ -148,7 +149,8 @@ by-day-scope system r out into =
     into e (record { first = span c ok (yearsElapsed c 1); past = span c ok (yearsElapsed c 3001); from = bounds .0; before = bounds .1 }))
 
 -- The date of a day in scope, by the closed forms.
-found-date : (system r : ℕ) → SystemInScope system → DayInScope system r → O.DateOutcome system r (dateAt (constantsOf system) (r + constantsOf system .anchor))
+found-date : (system r : ℕ) → SystemInScope system → DayInScope system r
+    → O.DateOutcome system r (dateAt (constantsOf system) (r + constantsOf system .anchor))
 found-date system r system-inside p =
     let c = constantsOf system in
     let ok = consistent system in
