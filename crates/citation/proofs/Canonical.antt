@@ -78,7 +78,9 @@ module _ (s before : List ℕ) (a : Accepted s) (room : 10 ≤ length before) wh
   stored-kind = ap kindOf stored-is
 
 -- A day's record, however the day was cited: whoever stores a day of a date gets the record of that date.
-pub stored-of-date : (s before : List ℕ) → Accepted s → 10 ≤ length before → (system r year month leap day : ℕ) → systemOf s ≡ system → Names s r
+pub stored-of-date : (s before : List ℕ) → Accepted s → 10 ≤ length before → (system r year month leap day : ℕ)
+    → systemOf s ≡ system
+    → Names s r
     → OnDate system r year month leap day
     → stored s before ≡ recordOf system year month leap day
 stored-of-date s before a room system r year month leap day e n d =

@@ -170,7 +170,8 @@ equal-exactly-when s before t under a room b space r q m o = (λ e. (same-system
 
     same-day-named : stored s before ≡ stored t under → r ≡ q
     same-day-named e =
-        names-unique (stored t under) r q (subst (λ x. Names x r) e (stores-its-day s before a room r m)) (stores-its-day t under b space q o)
+        let here = subst (λ x. Names x r) e (stores-its-day s before a room r m) in
+        names-unique (stored t under) r q here (stores-its-day t under b space q o)
 
     same-record : systemOf s ≡ systemOf t → r ≡ q → stored s before ≡ stored t under
     same-record e f =
@@ -189,7 +190,8 @@ pub stored-again-same : (s before under : List ℕ) → Accepted s → 10 ≤ le
 stored-again-same s before under a room space =
     let again = Canonical.stored-accepted s before a room in
     let names = Canonical.stored-names s before a room in
-    equal-exactly-when (stored s before) under s before again space a room ((judgeOf s) .day .0) ((judgeOf s) .day .0) names (Canonical.passed s a .kept .names)
+    let day = (judgeOf s) .day .0 in
+    equal-exactly-when (stored s before) under s before again space a room day day names (Canonical.passed s a .kept .names)
     .1 (Canonical.stored-system s before a room, refl)
 
 -- In each system, every day of those years has one stored record.
@@ -198,7 +200,8 @@ pub every-day-has-one-record : (system year d : ℕ) → InScope system year
     → OneRecord system d
 every-day-has-one-record system year d i y =
     let r = KindOne.registered system year d i y in
-    let x = KindOne.dated system year (r .0) i (subst (DayOfYear (constantsOf system) (yearsElapsed (constantsOf system) year)) (sym (r .1)) y) in
+    let c = constantsOf system in
+    let x = KindOne.dated system year (r .0) i (subst (DayOfYear c (yearsElapsed c year)) (sym (r .1)) y) in
     record {
       day = r .0;
       is-day = r .1;
@@ -210,8 +213,10 @@ every-day-has-one-record system year d i y =
       names = record-names system (r .0) _ _ _ _ (x .on);
       every-storing = λ s before a room e m. Canonical.stored-of-date s before a room system (r .0) _ _ _ _ e m (x .on);
       no-other = λ t bytes a kind e m.
+          let here = KindOne.on-its-date t a kind (r .0) m in
+          let there = subst (λ z. OnDate z (r .0) (x .year) (x .month) (x .leap) (x .day)) (sym e) (x .on) in
           KindOne.record-of-fields t a kind bytes
-          ∙ record-unique (systemOf t) (r .0) _ _ _ _ _ _ _ _ (KindOne.on-its-date t a kind (r .0) m) (subst (λ z. OnDate z (r .0) (x .year) (x .month) (x .leap) (x .day)) (sym e) (x .on))
+          ∙ record-unique (systemOf t) (r .0) _ _ _ _ _ _ _ _ here there
           ∙ ap (λ z. recordOf z (x .year) (x .month) (x .leap) (x .day)) e;
     }
 

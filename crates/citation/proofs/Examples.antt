@@ -112,5 +112,6 @@ table =
     ∷ []
 
 pub examples : map asked table ≡ map expected table
-unfolding answer asked expected table first-of-case-9 then byOrdinal byName solsticeOf yearOf yearRefusal monthsFrom filled refusalOf storedInto judgeOf judgeKind judgeDay judgeName judgeOrdinal judgeRegisterDay daysOf monthOf monthIn dateOf dateIn
+unfolding answer asked expected table first-of-case-9 then byOrdinal byName solsticeOf yearOf yearRefusal monthsFrom filled
+    refusalOf storedInto judgeOf judgeKind judgeDay judgeName judgeOrdinal judgeRegisterDay daysOf monthOf monthIn dateOf dateIn
 examples = refl

@@ -23,13 +23,16 @@ use Rattle.reckoning.specs.Outcomes.{MonthFound, MonthOutcome, DaysOutcome, Dat
 use Rattle.reckoning.proofs.Refusals.{by-inside}
 use Rattle.reckoning.proofs.Outcomes.{days-outcome, month-outcome, date-outcome, year-day-in-scope}
 use Rattle.citation.specs.declared.judge.Judgement.{Judgement}
-use Rattle.citation.specs.Record.{kindOf, systemOf, yearField, monthField, leapField, dayField, nameField, ordinalField, registerDayField, recordOf}
+use Rattle.citation.specs.Record.{kindOf, systemOf, yearField, monthField, leapField, dayField, nameField}
+use Rattle.citation.specs.Record.{ordinalField, registerDayField, recordOf}
 use Rattle.citation.specs.Named.{constantsIn, elapsedIn, CitedMonth, Names, OnDate}
 use Rattle.reckoning.specs.Rows.{Row, FirstOf}
 use Rattle.citation.specs.Refused.{contentRows, WrongSystem, WrongYear, WrongMonth, Placed, NotPlaced}
 use Rattle.citation.specs.Store.{refuse, accept, daysToName, judgeRegisterDay, judgeOrdinal, judgeDay, judgeName}
 use Rattle.citation.proofs.OneDay.{month-once}
-use Rattle.citation.proofs.Judgements.{date-refused, date-accepted, year-refused, ordinal-wrong, ordinal-right, month-refused, day-wrong, day-right, name-month-refused, no-name, name-past, name-right}
+use Rattle.citation.proofs.Judgements.{date-refused, date-accepted, year-refused, ordinal-wrong, ordinal-right}
+use Rattle.citation.proofs.Judgements.{month-refused, day-wrong, day-right}
+use Rattle.citation.proofs.Judgements.{name-month-refused, no-name, name-past, name-right}
 
 -- What the judgement of an accepted citation holds: the day that it names, by year, month and day of the month, and
 -- the record of that date.
@@ -47,6 +50,12 @@ pub data Judged (rows : List Row) (s : List ℕ) (j : Judgement) : Type 0 where
   refused : (number : ℕ) → 0 < number → j ≡ refuse number → FirstOf rows number → Judged rows s j
   accepted : j .refusal ≡ 0 → FirstOf rows 0 → Kept s j → Judged rows s j
 
+-- A value that carries a refusal number is judged by that number.
+refused-as : {A : Type 0} {v w : A} {j : Judgement} → v ≡ w → (number : A → ℕ) → 0 < number w
+    → ((number v ≡ 0 → ⊥) → refuse (number v) ≡ j)
+    → j ≡ refuse (number w)
+refused-as e number some r = sym (r (λ z. omega (arith, ap number e))) ∙ ap (λ x. refuse (number x)) e
+
 module _ (s : List ℕ) where
   abbrev c : Constants
   c = constantsIn s
@@ -58,12 +67,12 @@ module _ (s : List ℕ) where
       → (MonthFound (systemOf s) (yearField s) (monthField s) (leapField s) m → (WrongMonth s → ⊥) → Judged (contentRows s) s j)
       → Judged (contentRows s) s j
   month-judged j m kind (MonthOutcome.system-refused w e) r f =
-      Judged.refused 4 (omega arith) (sym (r (λ z. omega (arith, ap (λ x. x .refusal) e))) ∙ ap (λ x. refuse (x .refusal)) e) (inl (refl, w))
+      Judged.refused 4 (omega arith) (refused-as e (λ x. x .refusal) (omega arith) r) (inl (refl, w))
   month-judged j m kind (MonthOutcome.year-refused i w e) r f =
-      Judged.refused 5 (omega arith) (sym (r (λ z. omega (arith, ap (λ x. x .refusal) e))) ∙ ap (λ x. refuse (x .refusal)) e)
+      Judged.refused 5 (omega arith) (refused-as e (λ x. x .refusal) (omega arith) r)
       (inr (λ v. v i, inl (refl, (omega arith, w))))
   month-judged j m kind (MonthOutcome.month-refused i w e) r f =
-      Judged.refused 6 (omega arith) (sym (r (λ z. omega (arith, ap (λ x. x .refusal) e))) ∙ ap (λ x. refuse (x .refusal)) e)
+      Judged.refused 6 (omega arith) (refused-as e (λ x. x .refusal) (omega arith) r)
       (inr (λ v. v (i .system-inside), inr (λ v. v .1 (i .year-inside), inl (refl, (kind, w)))))
   month-judged j m kind (MonthOutcome.found f) r g =
       g f
@@ -78,7 +87,8 @@ module _ (s : List ℕ) where
       (w .1))
 
   -- What is left to judge where system, year and month are right: the place.
-  place-rows : {number : ℕ} → InScope (systemOf s) (yearField s) → (WrongMonth s → ⊥) → ((number ≡ 7) × NotPlaced s) ⊎ ((NotPlaced s → ⊥) × (number ≡ 0))
+  place-rows : {number : ℕ} → InScope (systemOf s) (yearField s) → (WrongMonth s → ⊥)
+      → ((number ≡ 7) × NotPlaced s) ⊎ ((NotPlaced s → ⊥) × (number ≡ 0))
       → FirstOf (contentRows s) number
   place-rows i w p =
       let system-right : WrongSystem s → ⊥ = λ v. v (i .system-inside) in
@@ -93,7 +103,8 @@ module _ (s : List ℕ) where
   day-not-placed e k n out (Placed.ordinal-in-year f y i) = omega arith
   day-not-placed e k n out (Placed.day-in-scope f d) = omega arith
 
-  pub day-judged : kindOf s ≡ 1 → Judged (contentRows s) s (judgeDay (systemOf s) (yearField s) (monthField s) (leapField s) (dayField s))
+  pub day-judged : kindOf s ≡ 1
+      → Judged (contentRows s) s (judgeDay (systemOf s) (yearField s) (monthField s) (leapField s) (dayField s))
   day-judged kind =
       let m = monthOf (systemOf s) (yearField s) (monthField s) (leapField s) in
       month-judged (judgeDay (systemOf s) (yearField s) (monthField s) (leapField s) (dayField s)) m (omega arith)
@@ -126,14 +137,17 @@ module _ (s : List ℕ) where
       }))))
 
   -- Kind 2.
-  name-not-placed : kindOf s ≡ 2 → (k : ℕ) → CitedMonth s k → ((r : ℕ) → InMonth c k (r + c .anchor) → nameOf r ≡ nameField s → ⊥) → NotPlaced s
+  name-not-placed : kindOf s ≡ 2 → (k : ℕ) → CitedMonth s k
+      → ((r : ℕ) → InMonth c k (r + c .anchor) → nameOf r ≡ nameField s → ⊥)
+      → NotPlaced s
   name-not-placed e k n out (Placed.day-in-month f l o i) = omega arith
   name-not-placed e k n out (Placed.name-in-month f l r o i g) =
       out r (subst (λ x. InMonth c x (r + c .anchor)) (month-once s l k o n) i) g
   name-not-placed e k n out (Placed.ordinal-in-year f y i) = omega arith
   name-not-placed e k n out (Placed.day-in-scope f d) = omega arith
 
-  pub name-judged : kindOf s ≡ 2 → Judged (contentRows s) s (judgeName (systemOf s) (yearField s) (monthField s) (leapField s) (nameField s))
+  pub name-judged : kindOf s ≡ 2
+      → Judged (contentRows s) s (judgeName (systemOf s) (yearField s) (monthField s) (leapField s) (nameField s))
   name-judged kind =
       let m = monthOf (systemOf s) (yearField s) (monthField s) (leapField s) in
       let head = m .head .0 in
@@ -166,7 +180,13 @@ module _ (s : List ℕ) where
         month = monthField s;
         leap = leapField s;
         day = days + 1;
-        dated = record { k = k; in-scope = i; named = n; placed = record { at-least = omega arith; at-most = omega arith }; day-is = day-is };
+        dated = record {
+          k = k;
+          in-scope = i;
+          named = n;
+          placed = record { at-least = omega arith; at-most = omega arith };
+          day-is = day-is;
+        };
         stored = refl;
         names = Names.by-name kind k n in-month is-named;
       })))
@@ -201,18 +221,22 @@ module _ (s : List ℕ) where
   day-out-of-scope e out (Placed.ordinal-in-year f y i) = omega arith
   day-out-of-scope e out (Placed.day-in-scope f d) = out d
 
-  register-day-judged-by : kindOf s ≡ 4 → (d : Date) → d ≡ dateOf (systemOf s) (registerDayField s) → DateOutcome (systemOf s) (registerDayField s) d
+  register-day-judged-by : kindOf s ≡ 4 → (d : Date) → d ≡ dateOf (systemOf s) (registerDayField s)
+      → DateOutcome (systemOf s) (registerDayField s) d
       → Judged (contentRows s) s (judgeRegisterDay (systemOf s) (registerDayField s))
   register-day-judged-by kind d is (DateOutcome.system-refused w e) =
-      Judged.refused 4 (omega arith) (sym (date-refused _ _ d is (λ z. omega (arith, ap (λ x. x .refusal) e))) ∙ ap (λ x. refuse (x .refusal)) e)
+      Judged.refused 4 (omega arith) (refused-as e (λ x. x .refusal) (omega arith) (date-refused _ _ d is))
       (inl (refl, w))
   register-day-judged-by kind d is (DateOutcome.day-refused i w e) =
-      Judged.refused 7 (omega arith) (sym (date-refused _ _ d is (λ z. omega (arith, ap (λ x. x .refusal) e))) ∙ ap (λ x. refuse (x .refusal)) e)
+      Judged.refused 7 (omega arith) (refused-as e (λ x. x .refusal) (omega arith) (date-refused _ _ d is))
       (inr (λ v. v i, inr (λ v. omega (arith, v .0), inr (λ v. omega (arith, v .0), inl (refl, day-out-of-scope kind w)))))
   register-day-judged-by kind d is (DateOutcome.found f) =
+      let system-right : WrongSystem s → ⊥ = λ v. v (f .in-scope .system-inside) in
+      let year-right : WrongYear s → ⊥ = λ v. omega (arith, v .0) in
+      let month-right : WrongMonth s → ⊥ = λ v. omega (arith, v .0) in
+      let place-right : NotPlaced s → ⊥ = λ v. v (Placed.day-in-scope kind (f .day-in-scope)) in
       subst (Judged (contentRows s) s) (date-accepted _ _ d is (f .not-refused))
-      (Judged.accepted refl
-      (inr (λ v. v (f .in-scope .system-inside), inr (λ v. omega (arith, v .0), inr (λ v. omega (arith, v .0), inr (λ v. v (Placed.day-in-scope kind (f .day-in-scope)), refl)))))
+      (Judged.accepted refl (inr (system-right, inr (year-right, inr (month-right, inr (place-right, refl)))))
       (kept-by-date (registerDayField s) d (Names.by-register-day kind refl) f))
 
   pub register-day-judged : kindOf s ≡ 4 → Judged (contentRows s) s (judgeRegisterDay (systemOf s) (registerDayField s))
@@ -229,10 +253,14 @@ module _ (s : List ℕ) where
       out (record { at-least = i .at-least; at-most = omega (arith, i .at-most) })
   ordinal-not-placed e y out (Placed.day-in-scope f d) = omega arith
 
-  on-ordinal-judged : (r : ℕ) → kindOf s ≡ 3 → Names s r → DayInScope (systemOf s) r → (d : Date) → d ≡ dateOf (systemOf s) r → DateOutcome (systemOf s) r d
+  on-ordinal-judged : (r : ℕ) → kindOf s ≡ 3 → Names s r → DayInScope (systemOf s) r
+      → (d : Date)
+      → d ≡ dateOf (systemOf s) r
+      → DateOutcome (systemOf s) r d
       → FirstOf (contentRows s) 0
       → Judged (contentRows s) s (judgeRegisterDay (systemOf s) r)
-  on-ordinal-judged r kind names scope d is (DateOutcome.system-refused w e) rows = absurd (⊎-elim (λ p. omega (arith, p .0)) (λ p. p .0 w) rows)
+  on-ordinal-judged r kind names scope d is (DateOutcome.system-refused w e) rows =
+      absurd (⊎-elim (λ p. omega (arith, p .0)) (λ p. p .0 w) rows)
   on-ordinal-judged r kind names scope d is (DateOutcome.day-refused i w e) rows = absurd (w scope)
   on-ordinal-judged r kind names scope d is (DateOutcome.found f) rows =
       subst (Judged (contentRows s) s) (date-accepted _ _ d is (f .not-refused)) (Judged.accepted refl rows (kept-by-date r d names f))
@@ -240,10 +268,10 @@ module _ (s : List ℕ) where
   ordinal-judged-by : kindOf s ≡ 3 → (y : Days) → y ≡ daysOf (systemOf s) (yearField s) → DaysOutcome (systemOf s) (yearField s) y
       → Judged (contentRows s) s (judgeOrdinal (systemOf s) (yearField s) (ordinalField s))
   ordinal-judged-by kind y is (DaysOutcome.system-refused w e) =
-      Judged.refused 4 (omega arith) (sym (year-refused _ _ _ y is (λ z. omega (arith, ap (λ x. x .refusal) e))) ∙ ap (λ x. refuse (x .refusal)) e)
+      Judged.refused 4 (omega arith) (refused-as e (λ x. x .refusal) (omega arith) (year-refused _ _ _ y is))
       (inl (refl, w))
   ordinal-judged-by kind y is (DaysOutcome.year-refused i w e) =
-      Judged.refused 5 (omega arith) (sym (year-refused _ _ _ y is (λ z. omega (arith, ap (λ x. x .refusal) e))) ∙ ap (λ x. refuse (x .refusal)) e)
+      Judged.refused 5 (omega arith) (refused-as e (λ x. x .refusal) (omega arith) (year-refused _ _ _ y is))
       (inr (λ v. v i, inl (refl, (omega arith, w))))
   ordinal-judged-by kind y is (DaysOutcome.found f) =
       let i = f .in-scope in
@@ -252,8 +280,9 @@ module _ (s : List ℕ) where
       let l = f .length-is in
       by-inside 1 (y .length) (ordinalField s)
       (λ e out.
+      let out-there = subst (λ x. Inside 1 x (ordinalField s) → ⊥) l out in
       Judged.refused 7 (omega arith) (sym (ordinal-wrong _ _ _ y is z e))
-      (place-rows i (λ v. omega (arith, v .0)) (inl (refl, ordinal-not-placed kind span-of (λ p. out (subst (λ x. Inside 1 x (ordinalField s)) (sym l) p))))))
+      (place-rows i (λ v. omega (arith, v .0)) (inl (refl, ordinal-not-placed kind span-of out-there))))
       (λ e into.
       let inside = subst (λ x. Inside 1 x (ordinalField s)) l into in
       let r = y .head .0 + ordinalField s - 1 in

@@ -8,7 +8,8 @@ use lib.ListN.{length}
 use Rattle.reckoning.proofs.Refusals.{inside-of}
 use Rattle.calendar.specs.Name.{nameOf}
 use Rattle.calendar.proofs.Rising.{by-order}
-use Rattle.citation.specs.Record.{lengthField, kindOf, systemOf, kindLength, yearField, monthField, leapField, dayField, nameField, ordinalField, registerDayField}
+use Rattle.citation.specs.Record.{lengthField, kindOf, systemOf, kindLength}
+use Rattle.citation.specs.Record.{yearField, monthField, leapField, dayField, nameField, ordinalField, registerDayField}
 use Rattle.citation.specs.JudgeInputs.{Whole}
 use lib.Dec.{ltb, leb}
 use borrow.Author.Tests.{eq-eqb, ne-eqb, lt-ltb, le-ltb, le-leb, lt-leb}
@@ -18,7 +19,9 @@ use Rattle.reckoning.specs.declared.data.Days.{Days}
 use Rattle.reckoning.specs.declared.data.Date.{Date}
 use Rattle.reckoning.specs.Requests.{daysOf, monthOf, dateOf}
 use Rattle.citation.specs.declared.judge.Judgement.{Judgement}
-use Rattle.citation.specs.Store.{refuse, accept, unlessRefused, unlessWrong, judgeDate, judgeRegisterDay, judgeInYear, judgeOrdinal, judgeInMonth, judgeDay, judgeNameInMonth, judgeName, daysToName, judgeKind, judgeOf}
+use Rattle.citation.specs.Store.{refuse, accept, unlessRefused, unlessWrong, judgeDate, judgeRegisterDay, judgeInYear}
+use Rattle.citation.specs.Store.{judgeOrdinal, judgeInMonth, judgeDay, judgeNameInMonth, judgeName, daysToName}
+use Rattle.citation.specs.Store.{judgeKind, judgeOf}
 
 -- One law for every kind.
 module _ (refusal : ℕ) (wrong : Bool) (j : Judgement) where
@@ -150,16 +153,21 @@ module _ (s : List ℕ) where
   unfolding judgeOf
   wrong-kind h e = simp (le-ltb (length s) 4 h, e)
 
-  pub wrong-field : 4 ≤ length s → outside 1 4 (kindOf s) ≡ false → (lengthField s ≡ kindLength (kindOf s) → ⊥) → refuse 3 ≡ judgeOf s
+  pub wrong-field : 4 ≤ length s → outside 1 4 (kindOf s) ≡ false → (lengthField s ≡ kindLength (kindOf s) → ⊥)
+      → refuse 3 ≡ judgeOf s
   unfolding judgeOf
   wrong-field h e f = simp (le-ltb (length s) 4 h, e, ne-eqb (lengthField s) (kindLength (kindOf s)) f)
 
-  pub wrong-size : 4 ≤ length s → outside 1 4 (kindOf s) ≡ false → lengthField s ≡ kindLength (kindOf s) → (length s ≡ lengthField s → ⊥) → refuse 3 ≡ judgeOf s
+  pub wrong-size : 4 ≤ length s → outside 1 4 (kindOf s) ≡ false → lengthField s ≡ kindLength (kindOf s)
+      → (length s ≡ lengthField s → ⊥)
+      → refuse 3 ≡ judgeOf s
   unfolding judgeOf
   wrong-size h e f g =
       simp (le-ltb (length s) 4 h, e, eq-eqb (lengthField s) (kindLength (kindOf s)) f, ne-eqb (length s) (lengthField s) g)
 
-  pub right-size : 4 ≤ length s → outside 1 4 (kindOf s) ≡ false → lengthField s ≡ kindLength (kindOf s) → length s ≡ lengthField s → judgeKind s ≡ judgeOf s
+  pub right-size : 4 ≤ length s → outside 1 4 (kindOf s) ≡ false → lengthField s ≡ kindLength (kindOf s)
+      → length s ≡ lengthField s
+      → judgeKind s ≡ judgeOf s
   unfolding judgeOf
   right-size h e f g =
       simp (le-ltb (length s) 4 h, e, eq-eqb (lengthField s) (kindLength (kindOf s)) f, eq-eqb (length s) (lengthField s) g)

@@ -17,7 +17,8 @@ use Rattle.reckoning.proofs.Scope.{reach}
 use Rattle.reckoning.proofs.InReach.{first-head}
 use Rattle.reckoning.proofs.Refusals.{by-inside}
 use Rattle.reckoning.proofs.Outcomes.{date-outcome, year-day-in-scope}
-use Rattle.citation.specs.Record.{byte, Bytes, lengthField, kindOf, kindLength, systemOf, yearField, monthField, leapField, dayField, recordOf}
+use Rattle.citation.specs.Record.{byte, Bytes, lengthField, kindOf, kindLength, systemOf, recordOf}
+use Rattle.citation.specs.Record.{yearField, monthField, leapField, dayField}
 use Rattle.citation.specs.Named.{Dated, constantsIn, Names, OnDate}
 use Rattle.citation.specs.Refused.{Accepted, citationRows, WrongLength, WrongSystem, WrongYear, NotPlaced}
 use Rattle.citation.proofs.Rows.{none-applies}
@@ -102,7 +103,8 @@ registered system year d i y =
     (registerDay c d, omega (arith, y .from, ap (monthHead c) (span-first c (consistent system) (y .span))))
 
 -- and a date.
-pub dated : (system year r : ℕ) → InScope system year → DayOfYear (constantsOf system) (yearsElapsed (constantsOf system) year) (r + constantsOf system .anchor)
+pub dated : (system year r : ℕ) → InScope system year
+    → DayOfYear (constantsOf system) (yearsElapsed (constantsOf system) year) (r + constantsOf system .anchor)
     → Dated system r
 dated system year r i d = go (dateOf system r) (date-outcome system r)
   where
@@ -115,5 +117,11 @@ dated system year r i d = go (dateOf system r) (date-outcome system r)
           month = v .month;
           leap = v .leap;
           day = v .day;
-          on = record { k = f .k; in-scope = f .in-scope; named = f .named; placed = record { at-least = omega arith; at-most = omega arith }; day-is = omega arith };
+          on = record {
+            k = f .k;
+            in-scope = f .in-scope;
+            named = f .named;
+            placed = record { at-least = omega arith; at-most = omega arith };
+            day-is = omega arith;
+          };
         }

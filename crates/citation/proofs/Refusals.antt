@@ -15,7 +15,8 @@ use Rattle.reckoning.specs.Rows.{FirstOf, _when_}
 use Rattle.citation.specs.Refused.{TooShort, WrongKind, WrongLength, NoRoom, contentRows, citationRows, storingRows}
 use Rattle.citation.specs.Store.{judgeKind, judgeOf, refusalOf}
 use Rattle.citation.proofs.Rows.{first-unique, first-before, first-after}
-use Rattle.citation.proofs.Judgements.{kind-one, kind-two, kind-three, kind-four, too-short, wrong-kind, wrong-field, wrong-size, right-size}
+use Rattle.citation.proofs.Judgements.{kind-one, kind-two, kind-three, kind-four}
+use Rattle.citation.proofs.Judgements.{too-short, wrong-kind, wrong-field, wrong-size, right-size}
 use Rattle.citation.proofs.Judged.{Judged, day-judged, name-judged, ordinal-judged, register-day-judged}
 use Rattle.citation.proofs.Storing.{refusal-kept, refusal-eight, refusal-none}
 
@@ -37,7 +38,9 @@ module _ (s : List ℕ) where
       (λ m. let e : kindOf s ≡ 4 = omega (arith, i) in subst (Judged (contentRows s) s) (kind-four s e) (register-day-judged s e))))
 
   -- It is a record: its content decides.
-  content-decides : (j : Judgement) → (TooShort s → ⊥) → (WrongKind s → ⊥) → (WrongLength s → ⊥) → Judged (contentRows s) s j → Judged (citationRows s) s j
+  content-decides : (j : Judgement) → (TooShort s → ⊥) → (WrongKind s → ⊥) → (WrongLength s → ⊥)
+      → Judged (contentRows s) s j
+      → Judged (citationRows s) s j
   content-decides j a b d (Judged.refused number some e rows) = Judged.refused number some e (inr (a, inr (b, inr (d, rows))))
   content-decides j a b d (Judged.accepted z rows kept) = Judged.accepted z (inr (a, inr (b, inr (d, rows)))) kept
 
@@ -55,8 +58,12 @@ module _ (s : List ℕ) where
       (λ g.
       subst (Judged (citationRows s) s) (right-size s h e f g)
       (content-decides (judgeKind s) (λ v. omega arith) (λ v. v into) (λ v. v (f, g)) (kind-judged into)))
-      (λ g. Judged.refused 3 (omega arith) (sym (wrong-size s h e f g)) (inr (λ v. omega arith, inr (λ v. v into, inl (refl, λ p. g (p .1)))))))
-      (λ f. Judged.refused 3 (omega arith) (sym (wrong-field s h e f)) (inr (λ v. omega arith, inr (λ v. v into, inl (refl, λ p. f (p .0))))))))
+      (λ g.
+      Judged.refused 3 (omega arith) (sym (wrong-size s h e f g))
+      (inr (λ v. omega arith, inr (λ v. v into, inl (refl, λ p. g (p .1)))))))
+      (λ f.
+      Judged.refused 3 (omega arith) (sym (wrong-field s h e f))
+      (inr (λ v. omega arith, inr (λ v. v into, inl (refl, λ p. f (p .0))))))))
 
 -- The number that the storing step answers is that of the first row that applies, and 0 where none does;
 pub refusal-first : (s : List ℕ) (room : ℕ) → FirstOf (storingRows s room) (refusalOf s room)

@@ -14,7 +14,8 @@ use Rattle.calendar.proofs.Laws.{number-inside, mark-inside}
 use Rattle.reckoning.specs.Scope.{YearInScope}
 use Rattle.citation.specs.Record.{Bytes, yearField, recordOf}
 use Rattle.citation.specs.Named.{elapsedIn, CitedMonth, Names, OnDate}
-use Rattle.citation.specs.Refused.{TooShort, WrongKind, WrongLength, WrongSystem, WrongYear, WrongMonth, Placed, NotPlaced, Accepted}
+use Rattle.citation.specs.Refused.{TooShort, WrongKind, WrongLength, WrongSystem, WrongYear, WrongMonth}
+use Rattle.citation.specs.Refused.{Placed, NotPlaced, Accepted}
 
 -- Bytes, one by one.
 abbrev EachByte : List ℕ → Type 0
@@ -90,7 +91,4 @@ module _ (system r year month leap day : ℕ) (d : OnDate system r year month le
       let day-small = (reckoned c ok) .month-most (d .k) in
       let system-small = d .in-scope .system-inside in
       let placed = d .placed in
-      each-byte rec (
-        omega arith,
-        (omega arith, (omega arith, (omega arith, (omega arith, (omega arith, (omega arith, (omega arith, (omega arith, (omega arith, tt))))))))),
-      )
+      each-byte rec (omega arith)
