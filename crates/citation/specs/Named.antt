@@ -10,7 +10,8 @@ use Rattle.calendar.specs.Name.{nameOf}
 use Rattle.calendar.specs.Month.{InMonth, monthLength, dayOfMonth}
 use Rattle.calendar.specs.Year.{Span, MonthNamed, dayOfOrdinal}
 use Rattle.reckoning.specs.Scope.{InScope}
-use Rattle.citation.specs.Record.{kindOf, systemOf, yearField, monthField, leapField, dayField, nameField, ordinalField, registerDayField}
+use Rattle.citation.specs.Record.{kindOf, systemOf, yearField, monthField, leapField, dayField, nameField}
+use Rattle.citation.specs.Record.{ordinalField, registerDayField}
 
 -- The constants of its system, and its year told by years elapsed.
 abbrev pub constantsIn : List ℕ → Constants
@@ -26,11 +27,23 @@ CitedMonth s k = MonthNamed (constantsIn s) (elapsedIn s) (monthField s) (leapFi
 -- Citation s names register day r.
 pub data Names (s : List ℕ) (r : ℕ) : Type 0 where
   -- kind 1, by its place in the month
-  by-day : kindOf s ≡ 1 → (k : ℕ) → CitedMonth s k → r + constantsIn s .anchor ≡ dayOfMonth (constantsIn s) k (dayField s) → Names s r
+  by-day : kindOf s ≡ 1
+      → (k : ℕ)
+      → CitedMonth s k
+      → r + constantsIn s .anchor ≡ dayOfMonth (constantsIn s) k (dayField s)
+      → Names s r
   -- kind 2, as the one in the month whose name it is
-  by-name : kindOf s ≡ 2 → (k : ℕ) → CitedMonth s k → InMonth (constantsIn s) k (r + constantsIn s .anchor) → nameOf r ≡ nameField s → Names s r
+  by-name : kindOf s ≡ 2
+      → (k : ℕ)
+      → CitedMonth s k
+      → InMonth (constantsIn s) k (r + constantsIn s .anchor)
+      → nameOf r ≡ nameField s
+      → Names s r
   -- kind 3, by its place in the year
-  by-ordinal : kindOf s ≡ 3 → (y : Span (constantsIn s) (elapsedIn s)) → r + constantsIn s .anchor ≡ dayOfOrdinal y (ordinalField s) → Names s r
+  by-ordinal : kindOf s ≡ 3
+      → (y : Span (constantsIn s) (elapsedIn s))
+      → r + constantsIn s .anchor ≡ dayOfOrdinal y (ordinalField s)
+      → Names s r
   -- kind 4, outright
   by-register-day : kindOf s ≡ 4 → r ≡ registerDayField s → Names s r
 

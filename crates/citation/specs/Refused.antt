@@ -9,7 +9,8 @@ use Rattle.calendar.specs.Month.{InMonth, monthLength}
 use Rattle.calendar.specs.Year.{Span, yearLength}
 use Rattle.reckoning.specs.Rows.{Row, _when_, FirstOf}
 use Rattle.reckoning.specs.Scope.{SystemInScope, YearInScope, NoSuchMonth, DayInScope}
-use Rattle.citation.specs.Record.{lengthField, kindOf, systemOf, kindLength, yearField, monthField, leapField, dayField, nameField, ordinalField, registerDayField}
+use Rattle.citation.specs.Record.{lengthField, kindOf, systemOf, kindLength, yearField, monthField, leapField}
+use Rattle.citation.specs.Record.{dayField, nameField, ordinalField, registerDayField}
 use Rattle.citation.specs.Named.{constantsIn, elapsedIn, CitedMonth}
 
 -- Row 1: too few bytes for a length field and a kind.
@@ -40,7 +41,12 @@ WrongMonth s = (kindOf s ≤ 2) × NoSuchMonth (constantsIn s) (elapsedIn s) (mo
 -- years 1 to 3000.
 pub data Placed (s : List ℕ) : Type 0 where
   day-in-month : kindOf s ≡ 1 → (k : ℕ) → CitedMonth s k → Inside 1 (monthLength (constantsIn s) k) (dayField s) → Placed s
-  name-in-month : kindOf s ≡ 2 → (k r : ℕ) → CitedMonth s k → InMonth (constantsIn s) k (r + constantsIn s .anchor) → nameOf r ≡ nameField s → Placed s
+  name-in-month : kindOf s ≡ 2
+      → (k r : ℕ)
+      → CitedMonth s k
+      → InMonth (constantsIn s) k (r + constantsIn s .anchor)
+      → nameOf r ≡ nameField s
+      → Placed s
   ordinal-in-year : kindOf s ≡ 3 → (y : Span (constantsIn s) (elapsedIn s)) → Inside 1 (yearLength y) (ordinalField s) → Placed s
   day-in-scope : kindOf s ≡ 4 → DayInScope (systemOf s) (registerDayField s) → Placed s
 

@@ -11,7 +11,8 @@ use Rattle.reckoning.specs.declared.data.Days.{Days}
 use Rattle.reckoning.specs.declared.data.Month.{Month}
 use Rattle.reckoning.specs.declared.data.Date.{Date}
 use Rattle.citation.specs.declared.judge.Judgement.{Judgement}
-use Rattle.citation.specs.Record.{lengthField, kindOf, systemOf, kindLength, yearField, monthField, leapField, dayField, nameField, ordinalField, registerDayField, recordOf}
+use Rattle.citation.specs.Record.{lengthField, kindOf, systemOf, kindLength, yearField, monthField, leapField}
+use Rattle.citation.specs.Record.{dayField, nameField, ordinalField, registerDayField, recordOf}
 
 -- A citation's judgement: its refusal number, or 0 with the day that it names and its stored record.
 abbrev pub refuse : ℕ → Judgement

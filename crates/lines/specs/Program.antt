@@ -23,15 +23,18 @@ pub record Framing : Type 0 where
   pub records : List (List ℕ)
   pub rest : List ℕ
 
+abbrev pub noRecord : List ℕ → Framing
+noRecord s = record { records = []; rest = s }
+
 -- A record, and then others.
 abbrev pub recordThen : List ℕ → Framing → Framing
 recordThen r others = record { records = r ∷ others .records; rest = others .rest }
 
 -- Cut into at most so many records.
 unfoldable pub framingWithin : ℕ → List ℕ → Framing
-framingWithin zero s = record { records = []; rest = s }
+framingWithin zero s = noRecord s
 framingWithin (suc most) s =
-    cond (framed s) (recordThen (take (lengthField s) s) (framingWithin most (drop (lengthField s) s))) (record { records = []; rest = s })
+    cond (framed s) (recordThen (take (lengthField s) s) (framingWithin most (drop (lengthField s) s))) (noRecord s)
 
 -- A record has four bytes or more, so that there are fewer of them than bytes.
 abbrev pub framing : List ℕ → Framing

@@ -16,8 +16,8 @@ pub struct Qi {
     pub units: u32,
 }
 
-// The months of a year: `count` of them, 12 or 13, or 0 when refused. Their heads stand in order, the next year's head after them; beside
-// each head the month's number and leap mark. Unused places are 0.
+// The months of a year: `count` of them, 12 or 13, or 0 when refused. Their heads stand in order, the next year's head
+// after them; beside each head the month's number and leap mark. Unused places are 0.
 pub struct Year {
     pub refusal: u8,
     pub count: u8,
