@@ -1,7 +1,8 @@
 // Records in a buffer, written as lines.
 ghost use mathlib.Core.Path.{_≡_};
-ghost use Prim.Native.Nat.{_≤_};
-ghost use lib.ListN.{length};
+ghost use Prim.Native.Nat.{_+_, _≤_, _<_};
+ghost use lib.ListN.{length, drop};
+ghost use Rattle.citation.specs.Record.{lengthField};
 ghost use Rattle.lines.specs.Program.{misframed, nextOf, Converted};
 use crate::line::put_line;
 use crate::put::wide;
@@ -13,6 +14,14 @@ pub struct Progress {
     pub written: usize,
 }
 
+// The length field of the record at a place.
+fn length_at(s: &[u8], at: usize) -> u32
+    requires { ⌜ at + 1 < length (now s) ⌝ }
+    ensures { λ r. ⌜ r ≡ lengthField (drop at (now (s .entry))) ⌝ }
+{
+    wide(s[at]) + 256 * wide(s[at + 1])
+}
+
 // The input starts with a length field that no record has.
 pub fn is_misframed(s: &[u8]) -> bool
     ensures { λ r. ⌜ r ≡ misframed (now (s .entry)) ⌝ }
@@ -20,7 +29,7 @@ pub fn is_misframed(s: &[u8]) -> bool
     if s.len() < 2 {
         return false;
     }
-    outside(4, 64, wide(s[0]) + 256 * wide(s[1]))
+    outside(4, 64, length_at(s, 0))
 }
 
 // The length of the record at a place, where a whole one is there and 64 bytes of output are; else 0.
@@ -34,7 +43,7 @@ fn next(s: &[u8], at: usize, size: usize) -> usize
     if s.len() - at < 2 {
         return 0;
     }
-    let n = wide(s[at]) + 256 * wide(s[at + 1]);
+    let n = length_at(s, at);
     if outside(4, 64, n) {
         return 0;
     }
