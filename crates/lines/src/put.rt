@@ -57,7 +57,7 @@ pub(crate) fn below_100(out: &mut [u8], at: usize, n: u32) -> usize
 }
 
 // A number of three digits or more.
-fn large(out: &mut [u8], at: usize, n: u32) -> usize
+fn from_100(out: &mut [u8], at: usize, n: u32) -> usize
     requires { ⌜ (at + 10 ≤ length (now out)) × (100 ≤ n) ⌝ }
     ensures { λ r. ⌜ Wrote (now (out .entry)) at (decimal n) (now (out .exit)) r × (r ≤ at + 10) ⌝ }
 {
@@ -91,7 +91,7 @@ pub(crate) fn number(out: &mut [u8], at: usize, n: u32) -> usize
     if n < 100 {
         return below_100(out, at, n);
     }
-    large(out, at, n)
+    from_100(out, at, n)
 }
 
 // A space and a number.

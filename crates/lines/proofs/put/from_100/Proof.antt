@@ -4,8 +4,8 @@ use Rattle.lines.specs.Wrote.{Wrote}
 use Rattle.lines.proofs.Writing.{wrote-then}
 use Rattle.lines.proofs.Decimals.{four-at-most, six-at-most, eight-at-most, ten-at-most}
 use borrow.Author.Needs.{needs}
-use Rattle.lines.proofs.put.large.Statement.{statement}
-use Rattle.lines.proofs.put.large.Tie as tie
+use Rattle.lines.proofs.put.from_100.Statement.{statement}
+use Rattle.lines.proofs.put.from_100.Tie as tie
 
 below-100-requires : tie.Need-below-100-requires
 below-100-requires c κs = search needs
@@ -73,8 +73,8 @@ same-length-4 c = search needs
 returns-4 : tie.Need-returns-4
 returns-4 c = (subst (λ t. Wrote (c .before .before .before .before .before .before .before .before .before .before .before .before .before .before .before .before .before .before .before .before .before .before .before .before .args .out .now) (c .before .before .before .before .before .before .before .before .before .before .before .before .before .before .before .before .before .before .before .before .before .before .before .before .args .at) t (c .before .before .two-digits10 .last .0) (c .before .before .two-digits10 .result)) (ten-at-most (c .before .before .before .before .before .before .before .before .before .before .before .before .before .before .before .before .before .before .before .before .before .before .before .before .args .n) (c .before .before .before .before .before .before .before .before .before .before .before .before .before .before .before .before .before .before .before .before .if3 .left) (omega arith)) (wrote-then _ _ _ _ _ _ _ _ (wrote-then _ _ _ _ _ _ _ _ (wrote-then _ _ _ _ _ _ _ _ (wrote-then _ _ _ _ _ _ _ _ (c .before .before .before .before .before .before .before .before .before .before .before .before .before .before .before .before .before .before .below-1004 .ensures .0) (c .before .before .before .before .before .before .before .before .before .before .before .before .before .before .two-digits7 .ensures .0)) (c .before .before .before .before .before .before .before .before .before .before .two-digits8 .ensures .0)) (c .before .before .before .before .before .before .two-digits9 .ensures .0)) (c .before .before .two-digits10 .ensures .0)), omega arith)
 
-pub large-spec : {M : Type 1} → statement M
-large-spec =
+pub from-100-spec : {M : Type 1} → statement M
+from-100-spec =
     tie.close
     (tie.spec
     below-100-requires
