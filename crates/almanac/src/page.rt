@@ -31,10 +31,8 @@ fn system_letter(out: &mut [u8], at: usize, system: u32) -> usize
     requires { ⌜ at + 2 ≤ length (now out) ⌝ }
     ensures { λ r. ⌜ r ≤ at + 2 ⌝ }
 {
-    if system == 1 {
-        return word(out, at, b" G");
-    }
-    word(out, at, b" J")
+    let bytes = [b' ', lines::text::letter(system)];
+    word(out, at, &bytes)
 }
 
 fn refused_line(out: &mut [u8], at: usize, refusal: u8) -> usize

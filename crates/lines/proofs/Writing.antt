@@ -22,8 +22,8 @@ wrote-byte b at x h =
     }
 
 -- One piece after another.
-pub wrote-then : (b m a x y : List ℕ) (at p e : ℕ) → Wrote b at x m p → Wrote m p y a e → Wrote b at (x ++ y) a e
-wrote-then b m a x y at p e w v =
+pub wrote-then : {b m a x y : List ℕ} {at p e : ℕ} → Wrote b at x m p → Wrote m p y a e → Wrote b at (x ++ y) a e
+wrote-then {b} {m} {a} {x} {y} {at} {p} {e} w v =
     let front : length (take at b ++ x) ≡ p = length-append (take at b) x ∙ ap (λ n. n + length x) (length-take-le at b (omega (arith, w))) ∙ sym (w .ends) in
     let whole : m ≡ (take at b ++ x) ++ drop (at + length x) b = w .is ∙ sym (append-assoc (take at b) x (drop (at + length x) b)) in
     let taken : take p m ≡ take at b ++ x = ap (take p) whole ∙ take-at (take at b ++ x) (drop (at + length x) b) p front in
@@ -46,6 +46,10 @@ wrote-then b m a x y at p e w v =
       same-length = v .same-length ∙ w .same-length;
     }
 
+-- A text told otherwise.
+pub wrote-as : {b a x y : List ℕ} {at e : ℕ} → x ≡ y → Wrote b at x a e → Wrote b at y a e
+wrote-as {b} {a} {x} {y} {at} {e} same w = subst (λ t. Wrote b at t a e) same w
+
 -- Two bytes, or the second alone written over the first.
 pub wrote-pair : (b : List ℕ) (at both x y : ℕ) → at + 2 ≤ length b → both ≤ 1
     → Wrote b at (cond (eqb both 0) (y ∷ []) (x ∷ y ∷ [])) (set (set b at x) (at + both) y) (at + both + 1)
@@ -60,9 +64,7 @@ wrote-pair b at both x y h l =
     (λ z.
     let one-both : both ≡ 1 = omega arith in
     subst (λ k. Wrote b at (cond (eqb k 0) (y ∷ []) (x ∷ y ∷ [])) (set (set b at x) (at + k) y) (at + k + 1)) (sym one-both)
-    (wrote-then b (set b at x) (set (set b at x) (at + 1) y) (x ∷ []) (y ∷ []) at (at + 1) (at + 1 + 1)
-    (wrote-byte b at x (omega arith))
-    (wrote-byte (set b at x) (at + 1) y (omega (arith, length-set b at x)))))
+    (wrote-then (wrote-byte b at x (omega arith)) (wrote-byte (set b at x) (at + 1) y (omega (arith, length-set b at x)))))
 
 -- What stands before the end of a text, and after it.
 pub wrote-front : (b a x : List ℕ) (at e : ℕ) → Wrote b at x a e → take e a ≡ take at b ++ x

@@ -15,9 +15,12 @@ field n = 32 ∷ decimal n
 abbrev pub newline : List ℕ
 newline = 10 ∷ []
 
--- The system's letter, G or J.
+-- The byte of the system's letter, G or J.
+abbrev pub letterOf : ℕ → ℕ
+letterOf system = cond (eqb system 1) 71 74
+
 abbrev pub letter : ℕ → List ℕ
-letter system = cond (eqb system 1) 71 74 ∷ []
+letter system = letterOf system ∷ []
 
 -- '*' after a leap month's number.
 abbrev pub star : ℕ → List ℕ

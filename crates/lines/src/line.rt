@@ -13,16 +13,10 @@ use crate::put::field;
 use crate::put::pair;
 use crate::put::small_field;
 use crate::put::wide;
+use crate::text::letter;
 use calendar::data::RegisterDay;
 use citation::judge::Judgement;
 use citation::judge::judge;
-
-// The byte of a system's letter, G or J.
-fn letter(system: u8) -> u8
-    ensures { λ r. ⌜ r ≡ cond (eqb system 1) 71 74 ⌝ }
-{
-    if system == 1 { b'G' } else { b'J' }
-}
 
 // 1 for a leap month, whose number is followed by a star.
 fn stars(leap: u8) -> usize
@@ -37,7 +31,7 @@ fn put_date(out: &mut [u8], start: usize, stored: [u8; 10]) -> usize
     ensures { λ r. ⌜ Wrote (now (out .entry)) start (storedDate stored) (now (out .exit)) r × (r ≤ start + 36) ⌝ }
 {
     let year = wide(stored[5]) + 256 * wide(stored[6]);
-    let at = byte(out, start, letter(stored[4]));
+    let at = byte(out, start, letter(wide(stored[4])));
     let at = field(out, at, year);
     let at = small_field(out, at, wide(stored[7]));
     let at = pair(out, at, stars(stored[8]), b'*', b' ');

@@ -1,11 +1,20 @@
-// Text put into an output at a place, for any program: each function gives the place after what it put. Where too few
-// bytes are left at the place, the output and the place stay as they are.
+// Text for any program: a system's letter, and words and numbers put into an output at a place. Each of those functions
+// gives the place after what it put; where too few bytes are left at the place, the output and the place stay as they
+// are.
 ghost use mathlib.Core.Path.{_≡_};
 ghost use Prim.Native.Nat.{_+_};
 ghost use lib.Dec.{ltb};
 ghost use lib.ListN.{length};
 ghost use Rattle.lines.specs.Decimal.{decimal};
+ghost use Rattle.lines.specs.Line.{letterOf};
 ghost use Rattle.lines.specs.Put.{Put};
+
+// The byte of a system's letter, G or J.
+pub fn letter(system: u32) -> u8
+    ensures { λ r. ⌜ r ≡ letterOf system ⌝ }
+{
+    if system == 1 { b'G' } else { b'J' }
+}
 
 // Whether an output of that length has fewer than `room` bytes left at a place.
 fn is_short(length: usize, at: usize, room: usize) -> bool

@@ -1,12 +1,11 @@
 use Prim.Native.Nat.{_+_, _*_}
-use mathlib.Core.Path.{subst, ap, ap₂, _∙_}
+use mathlib.Core.Path.{ap, ap₂, _∙_}
 use native.Mathlib.Omega.{arith}
 use mathlib.Core.List.{[], _∷_, _++_}
 use lib.ListN.{getD}
 use Rattle.lines.specs.Decimal.{decimal}
-use Rattle.lines.specs.Line.{field, star}
-use Rattle.lines.specs.Wrote.{Wrote}
-use Rattle.lines.proofs.Writing.{wrote-then}
+use Rattle.lines.specs.Line.{field, letterOf, star}
+use Rattle.lines.proofs.Writing.{wrote-as, wrote-then}
 use Rattle.lines.proofs.Lines.{star-and-space}
 use borrow.Author.Needs.{needs}
 use Rattle.lines.proofs.line.put_date.Statement.{statement}
@@ -30,8 +29,11 @@ mul-year c = search needs
 add-year : tie.Need-add-year
 add-year c = search needs
 
-array-read-letter : tie.Need-array-read-letter
-array-read-letter c = search needs
+array-read-wide-3 : tie.Need-array-read-wide-3
+array-read-wide-3 c = search needs
+
+wide-requires-3 : tie.Need-wide-requires-3
+wide-requires-3 c κs = search needs
 
 letter-requires : tie.Need-letter-requires
 letter-requires c κs = search needs
@@ -42,11 +44,11 @@ byte-requires c κs = search needs
 field-requires : tie.Need-field-requires
 field-requires c κs = search needs
 
-array-read-wide-3 : tie.Need-array-read-wide-3
-array-read-wide-3 c = search needs
+array-read-wide-4 : tie.Need-array-read-wide-4
+array-read-wide-4 c = search needs
 
-wide-requires-3 : tie.Need-wide-requires-3
-wide-requires-3 c κs = search needs
+wide-requires-4 : tie.Need-wide-requires-4
+wide-requires-4 c κs = search needs
 
 small-field-requires : tie.Need-small-field-requires
 small-field-requires c κs = search needs
@@ -60,11 +62,11 @@ stars-requires c κs = search needs
 pair-requires : tie.Need-pair-requires
 pair-requires c κs = search needs
 
-array-read-wide-4 : tie.Need-array-read-wide-4
-array-read-wide-4 c = search needs
+array-read-wide-5 : tie.Need-array-read-wide-5
+array-read-wide-5 c = search needs
 
-wide-requires-4 : tie.Need-wide-requires-4
-wide-requires-4 c κs = search needs
+wide-requires-5 : tie.Need-wide-requires-5
+wide-requires-5 c κs = search needs
 
 below-100-requires : tie.Need-below-100-requires
 below-100-requires c κs = search needs
@@ -73,7 +75,31 @@ same-length : tie.Need-same-length
 same-length c = search needs
 
 returns : tie.Need-returns
-returns c = let year = ap₂ (λ a b. a + 256 * b) (c .before .before .before .before .before .before .before .before .before .before .before .before .before .before .before .before .before .before .before .before .before .before .before .before .before .wide .ensures .0) (c .before .before .before .before .before .before .before .before .before .before .before .before .before .before .before .before .before .before .before .before .before .before .before .before .wide2 .ensures .0) in let last = star-and-space (getD (c .before .before .before .before .before .before .before .before .before .before .before .before .before .before .before .before .before .before .before .before .before .before .before .before .before .before .before .args .t3) 8 0) (c .before .before .before .before .before .before .before .before .stars .result) (decimal (c .before .before .before .wide4 .result)) (c .before .before .before .before .before .before .before .before .stars .ensures .0) ∙ ap (λ n. star (getD (c .before .before .before .before .before .before .before .before .before .before .before .before .before .before .before .before .before .before .before .before .before .before .before .before .before .before .before .args .t3) 8 0) ++ field n) (c .before .before .before .wide4 .ensures .0) in (subst (λ t. Wrote (c .before .before .before .before .before .before .before .before .before .before .before .before .before .before .before .before .before .before .before .before .before .before .before .before .before .before .before .args .out .now) (c .before .before .before .before .before .before .before .before .before .before .before .before .before .before .before .before .before .before .before .before .before .before .before .before .before .before .before .args .start) t (c .before .before .below-100 .last .0) (c .before .before .below-100 .result)) (λ i. (c .before .before .before .before .before .before .before .before .before .before .before .before .before .before .before .before .before .before .before .before .before .before .letter .ensures i ∷ []) ++ (field (year i) ++ (field (c .before .before .before .before .before .before .before .before .before .before .before .before .before .wide3 .ensures .0 i) ++ last i))) (wrote-then _ _ _ _ _ _ _ _ (c .before .before .before .before .before .before .before .before .before .before .before .before .before .before .before .before .before .before .before .before .before .byte .ensures .0) (wrote-then _ _ _ _ _ _ _ _ (c .before .before .before .before .before .before .before .before .before .before .before .before .before .before .before .before .before .field .ensures .0) (wrote-then _ _ _ _ _ _ _ _ (c .before .before .before .before .before .before .before .before .before .before .before .before .small-field .ensures .0) (wrote-then _ _ _ _ _ _ _ _ (c .before .before .before .before .before .before .before .pair .ensures .0) (c .before .before .below-100 .ensures .0))))), omega arith)
+returns c =
+    let day-put = c .before .before in
+    let star-put = day-put .before .before .before .before .before in
+    let month-put = star-put .before .before .before .before .before in
+    let year-put = month-put .before .before .before .before .before in
+    let letter-put = year-put .before .before .before .before in
+    let start = letter-put .before .before .before .before .before .before .before in
+    let leap = getD (start .args .t3) 8 0 in
+    let both = star-put .before .stars in
+    let day = day-put .before .wide5 in
+    let system-read = letter-put .before .before .wide3 .ensures .0 in
+    let low-read = letter-put .before .before .before .before .before .wide .ensures .0 in
+    let high-read = letter-put .before .before .before .before .wide2 .ensures .0 in
+    let month-read = month-put .before .wide4 .ensures .0 in
+    let letter-is = letter-put .before .letter .ensures ∙ ap letterOf system-read in
+    let year-is = ap₂ (λ low high. low + 256 * high) low-read high-read in
+    let star-is = star-and-space leap (both .result) (decimal (day .result)) (both .ensures .0) in
+    let last-is = star-is ∙ ap (λ n. star leap ++ field n) (day .ensures .0) in (
+      wrote-as (λ i. (letter-is i ∷ []) ++ (field (year-is i) ++ (field (month-read i) ++ last-is i)))
+          (wrote-then (letter-put .byte .ensures .0)
+          (wrote-then (year-put .field .ensures .0)
+          (wrote-then (month-put .small-field .ensures .0)
+          (wrote-then (star-put .pair .ensures .0) (day-put .below-100 .ensures .0))))),
+      omega arith,
+    )
 
 pub put-date-spec : {M : Type 1} → statement M
 put-date-spec =
@@ -85,18 +111,19 @@ put-date-spec =
     wide-requires-2
     mul-year
     add-year
-    array-read-letter
+    array-read-wide-3
+    wide-requires-3
     letter-requires
     byte-requires
     field-requires
-    array-read-wide-3
-    wide-requires-3
+    array-read-wide-4
+    wide-requires-4
     small-field-requires
     array-read-stars
     stars-requires
     pair-requires
-    array-read-wide-4
-    wide-requires-4
+    array-read-wide-5
+    wide-requires-5
     below-100-requires
     same-length
     returns)

@@ -30,7 +30,7 @@ same-length : tie.Need-same-length
 same-length c = search needs
 
 returns : tie.Need-returns
-returns c = (subst (λ n. Wrote (c .before .before .before .before .before .before .before .before .before .before .before .before .before .before .before .before .before .before .before .args .out .now) (c .before .before .before .before .before .before .before .before .before .before .before .before .before .before .before .before .before .before .before .args .start) (storedDate (c .before .before .before .before .before .before .before .before .before .before .before .before .before .before .before .before .before .before .before .args .stored) ++ (field (c .before .before .before .before .before .before .before .before .before .before .before .before .before .before .before .before .before .before .before .args .day .0) ++ (field n ++ newline))) (c .before .before .byte .last .0) (c .before .before .byte .result)) (c .before .before .before .before .before .before .before .wide .ensures .0 ∙ ap (λ n. n .0) (c .before .before .before .before .before .before .before .before .day-name .ensures)) (wrote-then _ _ _ _ _ _ _ _ (c .before .before .before .before .before .before .before .before .before .before .before .before .before .before .before .before .put-date .ensures .0) (wrote-then _ _ _ _ _ _ _ _ (c .before .before .before .before .before .before .before .before .before .before .before .before .field .ensures .0) (wrote-then _ _ _ _ _ _ _ _ (c .before .before .before .before .before .before .small-field .ensures .0) (c .before .before .byte .ensures .0)))), omega arith)
+returns c = (subst (λ n. Wrote (c .before .before .before .before .before .before .before .before .before .before .before .before .before .before .before .before .before .before .before .args .out .now) (c .before .before .before .before .before .before .before .before .before .before .before .before .before .before .before .before .before .before .before .args .start) (storedDate (c .before .before .before .before .before .before .before .before .before .before .before .before .before .before .before .before .before .before .before .args .stored) ++ (field (c .before .before .before .before .before .before .before .before .before .before .before .before .before .before .before .before .before .before .before .args .day .0) ++ (field n ++ newline))) (c .before .before .byte .last .0) (c .before .before .byte .result)) (c .before .before .before .before .before .before .before .wide .ensures .0 ∙ ap (λ n. n .0) (c .before .before .before .before .before .before .before .before .day-name .ensures)) (wrote-then (c .before .before .before .before .before .before .before .before .before .before .before .before .before .before .before .before .put-date .ensures .0) (wrote-then (c .before .before .before .before .before .before .before .before .before .before .before .before .field .ensures .0) (wrote-then (c .before .before .before .before .before .before .small-field .ensures .0) (c .before .before .byte .ensures .0)))), omega arith)
 
 pub put-day-spec : {M : Type 1} → statement M
 put-day-spec =

@@ -14,7 +14,7 @@ same-length : tie.Need-same-length
 same-length c = search needs
 
 returns : tie.Need-returns
-returns c = (wrote-then _ _ _ _ _ _ _ _ (c .before .before .before .before .before .before .byte .ensures .0) (c .before .before .number .ensures .0), omega arith)
+returns c = (wrote-then (c .before .before .before .before .before .before .byte .ensures .0) (c .before .before .number .ensures .0), omega arith)
 
 pub field-spec : {M : Type 1} → statement M
 field-spec = tie.close (tie.spec byte-requires number-requires same-length returns)

@@ -14,7 +14,7 @@ same-length : tie.Need-same-length
 same-length c = search needs
 
 returns : tie.Need-returns
-returns c = (wrote-then _ _ _ _ _ _ _ _ (c .before .before .before .before .before .before .byte .ensures .0) (c .before .before .below-100 .ensures .0), omega arith)
+returns c = (wrote-then (c .before .before .before .before .before .before .byte .ensures .0) (c .before .before .below-100 .ensures .0), omega arith)
 
 pub small-field-spec : {M : Type 1} → statement M
 small-field-spec = tie.close (tie.spec byte-requires below-100-requires same-length returns)

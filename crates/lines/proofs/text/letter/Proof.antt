@@ -1,6 +1,6 @@
 use borrow.Author.Tests.{eq-eqb, ne-eqb}
-use Rattle.lines.proofs.line.letter.Statement.{statement}
-use Rattle.lines.proofs.line.letter.Tie as tie
+use Rattle.lines.proofs.text.letter.Statement.{statement}
+use Rattle.lines.proofs.text.letter.Tie as tie
 
 returns : tie.Need-returns
 returns c = simp (eq-eqb _ _ (c .if1 .taken))
