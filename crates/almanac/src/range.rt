@@ -1,5 +1,6 @@
 // The pages of a range of years, written through one buffer.
-ghost use Prim.Native.Nat.{_+_, _≤_};
+ghost use mathlib.Core.Path.{_≡_};
+ghost use Prim.Native.Nat.{_+_, _≤_, min};
 ghost use lib.ListN.{length};
 use crate::page::page;
 use libc::STDOUT_FILENO;
@@ -11,7 +12,9 @@ struct Place {
 }
 
 // The year after. Past the largest number it stays, which is refused as the years past it would be.
-fn next_year(year: u32) -> u32 {
+fn next_year(year: u32) -> u32
+    ensures { λ r. ⌜ r ≡ min 4294967295 (year + 1) ⌝ }
+{
     if year < 4294967295 { year + 1 } else { year }
 }
 
