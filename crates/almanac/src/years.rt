@@ -22,8 +22,8 @@ fn longer(a: usize, b: usize) -> usize
     if a < b { b } else { a }
 }
 
-// A count of years, cut to the longest that is told.
-fn told(n: u64) -> u64
+// A count of years, at most the longest that is told.
+fn capped(n: u64) -> u64
     ensures { λ r. ⌜ r ≡ min longest n ⌝ }
 {
     if n < LONGEST { n } else { LONGEST }
@@ -56,9 +56,9 @@ fn count(first: &[u8], last: &[u8]) -> u64
         if above < first_digit {
             return 0;
         }
-        ahead = told(above - first_digit);
+        ahead = capped(above - first_digit);
     }
-    told(ahead + 1)
+    capped(ahead + 1)
 }
 
 pub(crate) fn read(first: &[u8], last: &[u8]) -> Years

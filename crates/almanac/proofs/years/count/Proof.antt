@@ -44,8 +44,8 @@ returns c =
     let loop = c .before .before .before .before .loop in
     ahead-stops _ _ (start .pre .0) (start .pre .1) (loop .ahead) (loop .place) (loop .inv) (omega arith) (omega arith)
 
-told-requires : tie.Need-told-requires Inv-loop μ-loop
-told-requires c κs = search needs
+capped-requires : tie.Need-capped-requires Inv-loop μ-loop
+capped-requires c κs = search needs
 
 loop-less : tie.Need-loop-less Inv-loop μ-loop
 loop-less c = search needs
@@ -54,18 +54,18 @@ loop-again : tie.Need-loop-again Inv-loop μ-loop
 loop-again c =
     let start = c .before .before .before .before .before .before .before .before .before in
     let loop = c .before .before .before .before .before .loop in
-    ahead-next _ _ (start .pre .0) (start .pre .1) (loop .ahead) (loop .place) (loop .inv) (omega arith) (c .told .result) (omega arith) (omega arith)
+    ahead-next _ _ (start .pre .0) (start .pre .1) (loop .ahead) (loop .place) (loop .inv) (omega arith) (c .capped .result) (omega arith) (omega arith)
 
-add-told : tie.Need-add-told Inv-loop μ-loop
-add-told c = omega (arith, c .before .loop .inv .is)
+add-capped : tie.Need-add-capped Inv-loop μ-loop
+add-capped c = omega (arith, c .before .loop .inv .is)
 
-told-requires-2 : tie.Need-told-requires-2 Inv-loop μ-loop
-told-requires-2 c κs = search needs
+capped-requires-2 : tie.Need-capped-requires-2 Inv-loop μ-loop
+capped-requires-2 c κs = search needs
 
 returns-2 : tie.Need-returns-2 Inv-loop μ-loop
 returns-2 c =
     let loop = c .before .before .loop in
-    c .told2 .ensures ∙ ahead-ends _ _ (loop .ahead) (loop .place) (loop .inv) (omega arith)
+    c .capped2 .ensures ∙ ahead-ends _ _ (loop .ahead) (loop .place) (loop .inv) (omega arith)
 
 pub count-spec : {M : Type 1} → statement M
 count-spec =
@@ -83,9 +83,9 @@ count-spec =
     mul-above
     add-above
     returns
-    told-requires
+    capped-requires
     loop-less
     loop-again
-    add-told
-    told-requires-2
+    add-capped
+    capped-requires-2
     returns-2)
