@@ -1,9 +1,8 @@
-use mathlib.Core.Path.{subst, ap, _∙_}
+use mathlib.Core.Path.{ap, _∙_}
 use native.Mathlib.Omega.{arith}
 use mathlib.Core.List.{_++_}
 use Rattle.lines.specs.Line.{storedDate, field, newline}
-use Rattle.lines.specs.Wrote.{Wrote}
-use Rattle.lines.proofs.Writing.{wrote-then}
+use Rattle.lines.proofs.Writing.{wrote-as, wrote-then}
 use borrow.Author.Needs.{needs}
 use Rattle.lines.proofs.line.put_day.Statement.{statement}
 use Rattle.lines.proofs.line.put_day.Tie as tie
@@ -30,7 +29,19 @@ same-length : tie.Need-same-length
 same-length c = search needs
 
 returns : tie.Need-returns
-returns c = (subst (λ n. Wrote (c .before .before .before .before .before .before .before .before .before .before .before .before .before .before .before .before .before .before .before .args .out .now) (c .before .before .before .before .before .before .before .before .before .before .before .before .before .before .before .before .before .before .before .args .start) (storedDate (c .before .before .before .before .before .before .before .before .before .before .before .before .before .before .before .before .before .before .before .args .stored) ++ (field (c .before .before .before .before .before .before .before .before .before .before .before .before .before .before .before .before .before .before .before .args .day .0) ++ (field n ++ newline))) (c .before .before .byte .last .0) (c .before .before .byte .result)) (c .before .before .before .before .before .before .before .wide .ensures .0 ∙ ap (λ n. n .0) (c .before .before .before .before .before .before .before .before .day-name .ensures)) (wrote-then (c .before .before .before .before .before .before .before .before .before .before .before .before .before .before .before .before .put-date .ensures .0) (wrote-then (c .before .before .before .before .before .before .before .before .before .before .before .before .field .ensures .0) (wrote-then (c .before .before .before .before .before .before .small-field .ensures .0) (c .before .before .byte .ensures .0)))), omega arith)
+returns c =
+    let end-put = c .before .before in
+    let name-put = end-put .before .before .before .before in
+    let day-put = name-put .before .before .before .before .before .before in
+    let date-put = day-put .before .before .before .before in
+    let args = date-put .before .before .before .args in
+    let name-is = name-put .before .wide .ensures .0 ∙ ap (λ n. n .0) (name-put .before .before .day-name .ensures) in (
+      wrote-as (ap (λ n. storedDate (args .stored) ++ (field (args .day .0) ++ (field n ++ newline))) name-is)
+          (wrote-then (date-put .put-date .ensures .0)
+          (wrote-then (day-put .field .ensures .0)
+          (wrote-then (name-put .small-field .ensures .0) (end-put .byte .ensures .0)))),
+      omega arith,
+    )
 
 pub put-day-spec : {M : Type 1} → statement M
 put-day-spec =

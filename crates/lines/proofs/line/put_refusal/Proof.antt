@@ -1,8 +1,7 @@
-use mathlib.Core.Path.{subst}
+use mathlib.Core.Path.{ap}
 use native.Mathlib.Omega.{arith}
 use Rattle.lines.specs.Line.{refusedLine}
-use Rattle.lines.specs.Wrote.{Wrote}
-use Rattle.lines.proofs.Writing.{wrote-then}
+use Rattle.lines.proofs.Writing.{wrote-as, wrote-then}
 use borrow.Author.Needs.{needs}
 use Rattle.lines.proofs.line.put_refusal.Statement.{statement}
 use Rattle.lines.proofs.line.put_refusal.Tie as tie
@@ -32,7 +31,21 @@ same-length : tie.Need-same-length
 same-length c = search needs
 
 returns : tie.Need-returns
-returns c = (subst (λ n. Wrote (c .before .before .before .before .before .before .before .before .before .before .before .before .before .before .before .before .before .before .before .before .before .before .before .before .before .before .args .out .now) (c .before .before .before .before .before .before .before .before .before .before .before .before .before .before .before .before .before .before .before .before .before .before .before .before .before .before .args .start) (refusedLine n) (c .before .before .byte2 .last .0) (c .before .before .byte2 .result)) (c .before .before .before .before .before .before .before .wide .ensures .0) (wrote-then (c .before .before .before .before .before .before .before .before .before .before .before .before .before .before .before .before .before .before .before .before .before .before .before .pair .ensures .0) (wrote-then (c .before .before .before .before .before .before .before .before .before .before .before .before .before .before .before .before .before .before .before .pair2 .ensures .0) (wrote-then (c .before .before .before .before .before .before .before .before .before .before .before .before .before .before .before .pair3 .ensures .0) (wrote-then (c .before .before .before .before .before .before .before .before .before .before .before .byte .ensures .0) (wrote-then (c .before .before .before .before .before .before .field .ensures .0) (c .before .before .byte2 .ensures .0)))))), omega arith)
+returns c =
+    let end-put = c .before .before in
+    let number-put = end-put .before .before .before .before in
+    let d-put = number-put .before .before .before .before .before in
+    let se-put = d-put .before .before .before .before in
+    let fu-put = se-put .before .before .before .before in
+    let re-put = fu-put .before .before .before .before in (
+      wrote-as (ap refusedLine (number-put .before .wide .ensures .0))
+          (wrote-then (re-put .pair .ensures .0)
+          (wrote-then (fu-put .pair2 .ensures .0)
+          (wrote-then (se-put .pair3 .ensures .0)
+          (wrote-then (d-put .byte .ensures .0)
+          (wrote-then (number-put .field .ensures .0) (end-put .byte2 .ensures .0)))))),
+      omega arith,
+    )
 
 pub put-refusal-spec : {M : Type 1} → statement M
 put-refusal-spec =

@@ -1,5 +1,4 @@
-use mathlib.Core.Path.{subst}
-use Rattle.lines.specs.Wrote.{Wrote}
+use Rattle.lines.proofs.Writing.{wrote-as}
 use Rattle.lines.proofs.Decimals.{tens-or-not}
 use borrow.Author.Needs.{needs}
 use Rattle.lines.proofs.put.below_100.Statement.{statement}
@@ -27,7 +26,11 @@ same-length : tie.Need-same-length
 same-length c = search needs
 
 returns : tie.Need-returns
-returns c = (subst (λ t. Wrote (c .before .before .before .before .before .before .args .out .now) (c .before .before .before .before .before .before .args .at) t (c .before .before .pair .last .0) (c .before .before .pair .result)) (tens-or-not (c .before .before .before .before .before .before .args .n) (c .before .before .before .before .before .before .pre .1) (c .before .before .before .has-tens .result) (c .before .before .before .has-tens .ensures .0)) (c .before .before .pair .ensures .0), c .before .before .pair .ensures .1)
+returns c =
+    let put = c .before .before .pair .ensures in
+    let tens = c .before .before .before .has-tens in
+    let start = c .before .before .before .before .before .before in
+    (wrote-as (tens-or-not (start .args .n) (start .pre .1) (tens .result) (tens .ensures .0)) (put .0), put .1)
 
 pub below-100-spec : {M : Type 1} → statement M
 below-100-spec =

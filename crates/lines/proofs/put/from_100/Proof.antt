@@ -1,7 +1,5 @@
-use mathlib.Core.Path.{subst}
 use native.Mathlib.Omega.{arith}
-use Rattle.lines.specs.Wrote.{Wrote}
-use Rattle.lines.proofs.Writing.{wrote-then}
+use Rattle.lines.proofs.Writing.{wrote-as, wrote-then}
 use Rattle.lines.proofs.Decimals.{four-at-most, six-at-most, eight-at-most, ten-at-most}
 use borrow.Author.Needs.{needs}
 use Rattle.lines.proofs.put.from_100.Statement.{statement}
@@ -17,7 +15,15 @@ same-length : tie.Need-same-length
 same-length c = search needs
 
 returns : tie.Need-returns
-returns c = (subst (λ t. Wrote (c .before .before .before .before .before .before .before .before .before .before .args .out .now) (c .before .before .before .before .before .before .before .before .before .before .args .at) t (c .before .before .two-digits .last .0) (c .before .before .two-digits .result)) (four-at-most (c .before .before .before .before .before .before .before .before .before .before .args .n) (c .before .before .before .before .before .before .before .before .before .before .pre .1) (c .before .before .before .before .before .before .before .before .if1 .taken)) (wrote-then (c .before .before .before .before .before .before .below-100 .ensures .0) (c .before .before .two-digits .ensures .0)), omega arith)
+returns c =
+    let last-put = c .before .before in
+    let first-put = last-put .before .before .before .before in
+    let size = first-put .before .before in
+    let start = size .before .before in (
+      wrote-as (four-at-most (start .args .n) (start .pre .1) (size .if1 .taken))
+          (wrote-then (first-put .below-100 .ensures .0) (last-put .two-digits .ensures .0)),
+      omega arith,
+    )
 
 below-100-requires-2 : tie.Need-below-100-requires-2
 below-100-requires-2 c κs = search needs
@@ -32,7 +38,18 @@ same-length-2 : tie.Need-same-length-2
 same-length-2 c = search needs
 
 returns-2 : tie.Need-returns-2
-returns-2 c = (subst (λ t. Wrote (c .before .before .before .before .before .before .before .before .before .before .before .before .before .before .before .args .out .now) (c .before .before .before .before .before .before .before .before .before .before .before .before .before .before .before .args .at) t (c .before .before .two-digits3 .last .0) (c .before .before .two-digits3 .result)) (six-at-most (c .before .before .before .before .before .before .before .before .before .before .before .before .before .before .before .args .n) (c .before .before .before .before .before .before .before .before .before .before .before .before .before .if1 .left) (c .before .before .before .before .before .before .before .before .before .before .before .before .if2 .taken)) (wrote-then (wrote-then (c .before .before .before .before .before .before .before .before .before .before .below-1002 .ensures .0) (c .before .before .before .before .before .before .two-digits2 .ensures .0)) (c .before .before .two-digits3 .ensures .0)), omega arith)
+returns-2 c =
+    let last-put = c .before .before in
+    let second-put = last-put .before .before .before .before in
+    let first-put = second-put .before .before .before .before in
+    let size = first-put .before .before in
+    let start = size .before .before .before in (
+      wrote-as (six-at-most (start .args .n) (size .before .if1 .left) (size .if2 .taken))
+          (wrote-then
+          (wrote-then (first-put .below-1002 .ensures .0) (second-put .two-digits2 .ensures .0))
+          (last-put .two-digits3 .ensures .0)),
+      omega arith,
+    )
 
 below-100-requires-3 : tie.Need-below-100-requires-3
 below-100-requires-3 c κs = search needs
@@ -50,7 +67,21 @@ same-length-3 : tie.Need-same-length-3
 same-length-3 c = search needs
 
 returns-3 : tie.Need-returns-3
-returns-3 c = (subst (λ t. Wrote (c .before .before .before .before .before .before .before .before .before .before .before .before .before .before .before .before .before .before .before .before .args .out .now) (c .before .before .before .before .before .before .before .before .before .before .before .before .before .before .before .before .before .before .before .before .args .at) t (c .before .before .two-digits6 .last .0) (c .before .before .two-digits6 .result)) (eight-at-most (c .before .before .before .before .before .before .before .before .before .before .before .before .before .before .before .before .before .before .before .before .args .n) (c .before .before .before .before .before .before .before .before .before .before .before .before .before .before .before .before .before .if2 .left) (c .before .before .before .before .before .before .before .before .before .before .before .before .before .before .before .before .if3 .taken)) (wrote-then (wrote-then (wrote-then (c .before .before .before .before .before .before .before .before .before .before .before .before .before .before .below-1003 .ensures .0) (c .before .before .before .before .before .before .before .before .before .before .two-digits4 .ensures .0)) (c .before .before .before .before .before .before .two-digits5 .ensures .0)) (c .before .before .two-digits6 .ensures .0)), omega arith)
+returns-3 c =
+    let last-put = c .before .before in
+    let third-put = last-put .before .before .before .before in
+    let second-put = third-put .before .before .before .before in
+    let first-put = second-put .before .before .before .before in
+    let size = first-put .before .before in
+    let start = size .before .before .before .before in (
+      wrote-as (eight-at-most (start .args .n) (size .before .if2 .left) (size .if3 .taken))
+          (wrote-then
+          (wrote-then
+          (wrote-then (first-put .below-1003 .ensures .0) (second-put .two-digits4 .ensures .0))
+          (third-put .two-digits5 .ensures .0))
+          (last-put .two-digits6 .ensures .0)),
+      omega arith,
+    )
 
 below-100-requires-4 : tie.Need-below-100-requires-4
 below-100-requires-4 c κs = search needs
@@ -71,7 +102,24 @@ same-length-4 : tie.Need-same-length-4
 same-length-4 c = search needs
 
 returns-4 : tie.Need-returns-4
-returns-4 c = (subst (λ t. Wrote (c .before .before .before .before .before .before .before .before .before .before .before .before .before .before .before .before .before .before .before .before .before .before .before .before .args .out .now) (c .before .before .before .before .before .before .before .before .before .before .before .before .before .before .before .before .before .before .before .before .before .before .before .before .args .at) t (c .before .before .two-digits10 .last .0) (c .before .before .two-digits10 .result)) (ten-at-most (c .before .before .before .before .before .before .before .before .before .before .before .before .before .before .before .before .before .before .before .before .before .before .before .before .args .n) (c .before .before .before .before .before .before .before .before .before .before .before .before .before .before .before .before .before .before .before .before .if3 .left) (omega arith)) (wrote-then (wrote-then (wrote-then (wrote-then (c .before .before .before .before .before .before .before .before .before .before .before .before .before .before .before .before .before .before .below-1004 .ensures .0) (c .before .before .before .before .before .before .before .before .before .before .before .before .before .before .two-digits7 .ensures .0)) (c .before .before .before .before .before .before .before .before .before .before .two-digits8 .ensures .0)) (c .before .before .before .before .before .before .two-digits9 .ensures .0)) (c .before .before .two-digits10 .ensures .0)), omega arith)
+returns-4 c =
+    let last-put = c .before .before in
+    let fourth-put = last-put .before .before .before .before in
+    let third-put = fourth-put .before .before .before .before in
+    let second-put = third-put .before .before .before .before in
+    let first-put = second-put .before .before .before .before in
+    let size = first-put .before .before in
+    let start = size .before .before .before .before in (
+      wrote-as (ten-at-most (start .args .n) (size .if3 .left) (omega arith))
+          (wrote-then
+          (wrote-then
+          (wrote-then
+          (wrote-then (first-put .below-1004 .ensures .0) (second-put .two-digits7 .ensures .0))
+          (third-put .two-digits8 .ensures .0))
+          (fourth-put .two-digits9 .ensures .0))
+          (last-put .two-digits10 .ensures .0)),
+      omega arith,
+    )
 
 pub from-100-spec : {M : Type 1} → statement M
 from-100-spec =

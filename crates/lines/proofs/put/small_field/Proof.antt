@@ -14,7 +14,10 @@ same-length : tie.Need-same-length
 same-length c = search needs
 
 returns : tie.Need-returns
-returns c = (wrote-then (c .before .before .before .before .before .before .byte .ensures .0) (c .before .before .below-100 .ensures .0), omega arith)
+returns c =
+    let number-put = c .before .before in
+    let space-put = number-put .before .before .before .before in
+    (wrote-then (space-put .byte .ensures .0) (number-put .below-100 .ensures .0), omega arith)
 
 pub small-field-spec : {M : Type 1} → statement M
 small-field-spec = tie.close (tie.spec byte-requires below-100-requires same-length returns)

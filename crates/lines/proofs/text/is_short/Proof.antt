@@ -6,13 +6,19 @@ use Rattle.lines.proofs.text.is_short.Statement.{statement}
 use Rattle.lines.proofs.text.is_short.Tie as tie
 
 returns : tie.Need-returns
-returns c = sym (lt-ltb (c .before .args .length) (c .before .args .at + c .before .args .room) (omega arith))
+returns c =
+    let args = c .before .args in
+    sym (lt-ltb (args .length) (args .at + args .room) (omega arith))
 
 returns-2 : tie.Need-returns-2
-returns-2 c = sym (lt-ltb (c .before .before .args .length) (c .before .before .args .at + c .before .before .args .room) (omega arith))
+returns-2 c =
+    let args = c .before .before .args in
+    sym (lt-ltb (args .length) (args .at + args .room) (omega arith))
 
 returns-3 : tie.Need-returns-3
-returns-3 c = sym (le-ltb (c .before .before .args .length) (c .before .before .args .at + c .before .before .args .room) (omega arith))
+returns-3 c =
+    let args = c .before .before .args in
+    sym (le-ltb (args .length) (args .at + args .room) (omega arith))
 
 pub is-short-spec : {M : Type 1} → statement M
 is-short-spec = tie.close (tie.spec returns returns-2 returns-3)

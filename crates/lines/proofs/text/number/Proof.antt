@@ -18,7 +18,11 @@ same-length : tie.Need-same-length
 same-length c = search needs
 
 returns-2 : tie.Need-returns-2
-returns-2 c = put-text _ _ _ _ _ _ (ltb-false _ _ (sym (c .before .before .before .before .before .is-short .ensures) ∙ c .before .before .before .before .if1 .left)) (c .before .before .number .ensures .0) (c .before .before .number .ensures .1)
+returns-2 c =
+    let put = c .before .before .number .ensures in
+    let long = c .before .before .before .before in
+    let room = ltb-false _ _ (sym (long .before .is-short .ensures) ∙ long .if1 .left) in
+    put-text _ _ _ _ _ _ room (put .0) (put .1)
 
 pub number-spec : {M : Type 1} → statement M
 number-spec = tie.close (tie.spec is-short-requires returns number-requires same-length returns-2)

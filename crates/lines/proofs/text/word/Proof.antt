@@ -25,7 +25,10 @@ returns : tie.Need-returns Inv-loop μ-loop
 returns c = put-none _ _ _ _ (ltb-true _ _ (sym (c .before .is-short .ensures) ∙ c .if1 .taken))
 
 loop-holds : tie.Need-loop-holds Inv-loop μ-loop
-loop-holds c = (ltb-false _ _ (sym (c .before .is-short .ensures) ∙ c .if1 .left), omega arith, paste-zero (c .before .before .before .before .args .out .now) (c .before .before .before .before .args .at) (c .before .before .before .before .args .bytes .now))
+loop-holds c =
+    let args = c .before .before .before .before .args in
+    let room = ltb-false _ _ (sym (c .before .is-short .ensures) ∙ c .if1 .left) in
+    (room, omega arith, paste-zero (args .out .now) (args .at) (args .bytes .now))
 
 shared-slice-read-out : tie.Need-shared-slice-read-out Inv-loop μ-loop
 shared-slice-read-out c = search needs
@@ -34,7 +37,11 @@ add-out : tie.Need-add-out Inv-loop μ-loop
 add-out c = search needs
 
 slice-write-out : tie.Need-slice-write-out Inv-loop μ-loop
-slice-write-out c = omega (arith, ap length (c .before .before .loop .inv .2), length-paste (c .before .before .before .before .before .before .before .args .out .now) (c .before .before .before .before .before .before .before .args .at) (c .before .before .before .before .before .before .before .args .bytes .now) (c .before .before .loop .i) (omega arith) (omega arith))
+slice-write-out c =
+    let args = c .before .before .before .before .before .before .before .args in
+    let loop = c .before .before .loop in
+    let long = length-paste (args .out .now) (args .at) (args .bytes .now) (loop .i) (omega arith) (omega arith) in
+    omega (arith, ap length (loop .inv .2), long)
 
 add-i : tie.Need-add-i Inv-loop μ-loop
 add-i c = search needs
@@ -43,16 +50,31 @@ loop-less : tie.Need-loop-less Inv-loop μ-loop
 loop-less c = search needs
 
 loop-again : tie.Need-loop-again Inv-loop μ-loop
-loop-again c = (omega arith, omega arith, rw (add-one, c .before .before .loop .inv .2) (paste-suc (c .before .before .before .before .before .before .before .args .out .now) (c .before .before .before .before .before .before .before .args .at) (c .before .before .before .before .before .before .before .args .bytes .now) (c .before .before .loop .i) 0 (omega arith) (omega arith)))
+loop-again c =
+    let args = c .before .before .before .before .before .before .before .args in
+    let loop = c .before .before .loop in
+    let more = paste-suc (args .out .now) (args .at) (args .bytes .now) (loop .i) 0 (omega arith) (omega arith) in
+    (omega arith, omega arith, rw (add-one, loop .inv .2) more)
 
 add-result : tie.Need-add-result Inv-loop μ-loop
 add-result c = search needs
 
 same-length : tie.Need-same-length Inv-loop μ-loop
-same-length c = ap length (c .before .loop .inv .2) ∙ length-paste (c .before .before .before .before .before .before .args .out .now) (c .before .before .before .before .before .before .args .at) (c .before .before .before .before .before .before .args .bytes .now) (c .before .loop .i) (omega arith) (omega arith)
+same-length c =
+    let args = c .before .before .before .before .before .before .args in
+    let loop = c .before .loop in
+    let long = length-paste (args .out .now) (args .at) (args .bytes .now) (loop .i) (omega arith) (omega arith) in
+    ap length (loop .inv .2) ∙ long
 
 returns-2 : tie.Need-returns-2 Inv-loop μ-loop
-returns-2 c = let e : c .before .loop .i ≡ length (c .before .before .before .before .before .before .args .bytes .now) = omega arith in put-text _ _ _ _ _ _ (c .before .loop .inv .0) (subst (λ o. Wrote (c .before .before .before .before .before .before .args .out .now) (c .before .before .before .before .before .before .args .at) (c .before .before .before .before .before .before .args .bytes .now) o (c .before .before .before .before .before .before .args .at + c .before .loop .i)) (sym (c .before .loop .inv .2)) (rw e (wrote-copy _ _ _ (c .before .loop .inv .0)))) (omega arith)
+returns-2 c =
+    let args = c .before .before .before .before .before .before .args in
+    let loop = c .before .loop in
+    let all : loop .i ≡ length (args .bytes .now) = omega arith in
+    put-text _ _ _ _ _ _ (loop .inv .0)
+    (subst (λ o. Wrote (args .out .now) (args .at) (args .bytes .now) o (args .at + loop .i)) (sym (loop .inv .2))
+    (rw all (wrote-copy _ _ _ (loop .inv .0))))
+    (omega arith)
 
 pub word-spec : {M : Type 1} → statement M
 word-spec =
