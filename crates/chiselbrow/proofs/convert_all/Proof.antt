@@ -18,7 +18,9 @@ loop-holds : tie.Need-loop-holds Inv-loop μ-loop
 loop-holds c = (refl, c .before .before .convert-once .ensures .1)
 
 same-length : tie.Need-same-length Inv-loop μ-loop
-same-length c = c .before .before .before .loop .inv .0 ∙ c .before .before .before .before .before .before .convert-once .ensures .2
+same-length c =
+    let at-loop = c .before .before .before in
+    at-loop .loop .inv .0 ∙ at-loop .before .before .before .convert-once .ensures .2
 
 returns : tie.Need-returns Inv-loop μ-loop
 returns c = c .before .before .before .loop .inv .1
@@ -33,7 +35,10 @@ loop-less : tie.Need-loop-less Inv-loop μ-loop
 loop-less c = omega arith
 
 loop-again : tie.Need-loop-again Inv-loop μ-loop
-loop-again c = (c .before .before .convert-once2 .ensures .2 ∙ c .before .before .before .before .before .before .before .loop .inv .0, c .before .before .convert-once2 .ensures .1)
+loop-again c =
+    let done = c .before .before .convert-once2 .ensures in
+    let inv = c .before .before .before .before .before .before .before .loop .inv in
+    (done .2 ∙ inv .0, done .1)
 
 same-length-2 : tie.Need-same-length-2 Inv-loop μ-loop
 same-length-2 c = c .before .loop .inv .0 ∙ c .before .before .before .before .convert-once .ensures .2

@@ -1,9 +1,16 @@
+use Prim.Native.Nat.{ℕ, _≤_}
 use mathlib.Core.Path.{sym}
+use mathlib.Core.List.{List}
 use native.Mathlib.Omega.{arith}
+use lib.ListN.{length, take}
 use lib.Seq.{length-take-le}
 use borrow.Author.Needs.{needs}
 use Rattle.chiselbrow.proofs.convert_filled.Statement.{statement}
 use Rattle.chiselbrow.proofs.convert_filled.Tie as tie
+
+-- What is done with lies within what was filled.
+within-filled : (input : List ℕ) (filled to : ℕ) → to ≤ length (take filled input) → filled ≤ length input → to ≤ filled
+within-filled input filled to h fits = omega (arith, length-take-le filled input fits)
 
 slice-reshare-prefix-convert-all : tie.Need-slice-reshare-prefix-convert-all
 slice-reshare-prefix-convert-all c = search needs
@@ -15,10 +22,16 @@ convert-all-requires : tie.Need-convert-all-requires
 convert-all-requires c κs = search needs
 
 sub-is-misframed : tie.Need-sub-is-misframed
-sub-is-misframed c = omega (arith, c .before .before .convert-all .ensures, length-take-le (c .before .before .before .before .before .before .before .args .filled) (c .before .before .before .before .before .before .before .args .input .now) (c .before .before .before .before .before .before .before .pre))
+sub-is-misframed c =
+    let done = c .before .before in
+    let start = done .before .before .before .before .before in
+    within-filled (start .args .input .now) _ _ (done .convert-all .ensures) (start .pre)
 
 part-is-misframed-start : tie.Need-part-is-misframed-start
-part-is-misframed-start c = omega (arith, c .before .before .before .convert-all .ensures, length-take-le (c .before .before .before .before .before .before .before .before .args .filled) (c .before .before .before .before .before .before .before .before .args .input .now) (c .before .before .before .before .before .before .before .before .pre))
+part-is-misframed-start c =
+    let done = c .before .before .before in
+    let start = done .before .before .before .before .before in
+    within-filled (start .args .input .now) _ _ (done .convert-all .ensures) (start .pre)
 
 part-is-misframed-end : tie.Need-part-is-misframed-end
 part-is-misframed-end c = search needs
@@ -39,7 +52,10 @@ returns : tie.Need-returns
 returns c = search needs
 
 keep-requires : tie.Need-keep-requires
-keep-requires c κs = (omega (arith, c .before .before .before .before .before .before .before .convert-all .ensures, length-take-le (c .before .before .before .before .before .before .before .before .before .before .before .before .args .filled) (c .before .before .before .before .before .before .before .before .before .before .before .before .args .input .now) (c .before .before .before .before .before .before .before .before .before .before .before .before .pre)), c .before .before .before .before .before .before .before .before .before .before .before .before .pre)
+keep-requires c κs =
+    let done = c .before .before .before .before .before .before .before in
+    let start = done .before .before .before .before .before in
+    (within-filled (start .args .input .now) _ _ (done .convert-all .ensures) (start .pre), start .pre)
 
 same-length-3 : tie.Need-same-length-3
 same-length-3 c = search needs

@@ -4,13 +4,19 @@ use mathlib.Core.List.{List}
 use native.Mathlib.Omega.{arith}
 use lib.ListN.{length, take, drop, length-drop}
 use lib.Seq.{length-take-le, take-all}
-use Rattle.lines.specs.Program.{portionOf}
+use Rattle.lines.specs.declared.convert.Progress.{Progress}
+use Rattle.lines.specs.Program.{portionOf, progressOf}
 use borrow.Author.Needs.{needs}
 use Rattle.chiselbrow.proofs.convert_once.Statement.{statement}
 use Rattle.chiselbrow.proofs.convert_once.Tie as tie
 
 to-the-end : (s : List ℕ) (from : ℕ) → take (length s - from) (drop from s) ≡ drop from s
 to-the-end s from = take-all (length s - from) (drop from s) (omega (arith, length-drop from s))
+
+-- How far the records from a place on were read.
+read-from : (s : List ℕ) (from size : ℕ) (p : Progress) → p ≡ progressOf (portionOf (take (length s - from) (drop from s)) size)
+    → p .read ≡ portionOf (drop from s) size .read
+read-from s from size p e = ap (λ q. q .read) e ∙ ap (λ t. portionOf t size .read) (to-the-end s from)
 
 sub-convert : tie.Need-sub-convert
 sub-convert c = search needs
@@ -29,18 +35,19 @@ same-length c = search needs
 
 returns : tie.Need-returns
 returns c =
+    let done = c .before .before .before .before .convert in
     let start = c .before .before .before .before .before .before .before .before .before in
-    let input = start .args .input .now in
-    let from = start .args .from in
-    let done = c .before .before .before .before .convert .ensures in
-    let reached = ap (λ p. p .read) (done .progress) ∙ ap (λ s. portionOf s (length (start .args .out .now)) .read) (to-the-end input from) in
-    (omega (arith, reached), start .pre, done .same-length)
+    let args = start .args in
+    let read = read-from (args .input .now) (args .from) (length (args .out .now)) (done .result) (done .ensures .progress) in
+    (omega arith, start .pre, done .ensures .same-length)
 
 slice-reshare-prefix-write-all : tie.Need-slice-reshare-prefix-write-all
 slice-reshare-prefix-write-all c = search needs
 
 slice-aggregate-write-all : tie.Need-slice-aggregate-write-all
-slice-aggregate-write-all c = sym (length-take-le _ _ (c .before .before .before .before .before .convert .ensures .written-within))
+slice-aggregate-write-all c =
+    let done = c .before .before .before .before .before .convert .ensures in
+    sym (length-take-le _ _ (done .written-within))
 
 write-all-requires : tie.Need-write-all-requires
 write-all-requires c κs = search needs
@@ -53,12 +60,10 @@ same-length-2 c = search needs
 
 returns-2 : tie.Need-returns-2
 returns-2 c =
-    let start = c .before .before .before .before .before .before .before .before .before .before .before .before in
-    let input = start .args .input .now in
-    let from = start .args .from in
-    let done = c .before .before .before .before .before .before .before .convert .ensures in
-    let reached = ap (λ p. p .read) (done .progress) ∙ ap (λ s. portionOf s (length (start .args .out .now)) .read) (to-the-end input from) in
-    (omega (arith, reached), omega (arith, done .read-within), done .same-length)
+    let done = c .before .before .before .before .before .before .before .convert in
+    let args = c .before .before .before .before .before .before .before .before .before .before .before .before .args in
+    let read = read-from (args .input .now) (args .from) (length (args .out .now)) (done .result) (done .ensures .progress) in
+    (omega arith, omega (arith, done .ensures .read-within), done .ensures .same-length)
 
 pub convert-once-spec : {M : Type 1} → statement M
 convert-once-spec =

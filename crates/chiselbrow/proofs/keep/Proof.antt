@@ -40,10 +40,11 @@ loop-less c = omega arith
 loop-again : tie.Need-loop-again Inv-loop μ-loop
 loop-again c =
     let args = c .before .before .before .args in
-    let loop = c .before .before .loop in (
+    let loop = c .before .before .loop in
+    let more = moved-more (args .buffer .now) (args .from) (loop .i) (omega arith) in (
       simp length-set (loop .inv .0),
       omega arith,
-      ap (λ b. set b (loop .i) (getD b (args .from + loop .i) 0)) (loop .inv .2) ∙ moved-more (args .buffer .now) (args .from) (loop .i) (omega arith),
+      ap (λ b. set b (loop .i) (getD b (args .from + loop .i) 0)) (loop .inv .2) ∙ more,
     )
 
 same-length : tie.Need-same-length Inv-loop μ-loop

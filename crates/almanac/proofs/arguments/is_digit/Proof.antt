@@ -7,10 +7,14 @@ returns : tie.Need-returns
 returns c = simp (lt-leb 48 (c .before .args .byte) (omega arith))
 
 returns-2 : tie.Need-returns-2
-returns-2 c = simp (le-leb 48 (c .before .before .args .byte) (omega arith), lt-leb (c .before .before .args .byte) 57 (omega arith))
+returns-2 c =
+    let byte = c .before .before .args .byte in
+    simp (le-leb 48 byte (omega arith), lt-leb byte 57 (omega arith))
 
 returns-3 : tie.Need-returns-3
-returns-3 c = simp (le-leb 48 (c .before .before .args .byte) (omega arith), le-leb (c .before .before .args .byte) 57 (omega arith))
+returns-3 c =
+    let byte = c .before .before .args .byte in
+    simp (le-leb 48 byte (omega arith), le-leb byte 57 (omega arith))
 
 pub is-digit-spec : {M : Type 1} → statement M
 is-digit-spec = tie.close (tie.spec returns returns-2 returns-3)

@@ -28,7 +28,10 @@ is-digit-requires : tie.Need-is-digit-requires Inv-loop μ-loop
 is-digit-requires c κs = search needs
 
 returns-2 : tie.Need-returns-2 Inv-loop μ-loop
-returns-2 c = reading-stops _ _ _ (c .before .before .before .before .loop .inv .2) (omega arith) (sym (c .before .is-digit .ensures) ∙ not-true _ (c .if2 .taken))
+returns-2 c =
+    let inv = c .before .before .before .before .loop .inv in
+    let no-digit = sym (c .before .is-digit .ensures) ∙ not-true _ (c .if2 .taken) in
+    reading-stops _ _ _ (inv .2) (omega arith) no-digit
 
 with-digit-requires : tie.Need-with-digit-requires Inv-loop μ-loop
 with-digit-requires c κs = a-digit _ (sym (c .before .is-digit .ensures) ∙ not-false _ (c .if2 .left))
@@ -40,10 +43,15 @@ loop-less : tie.Need-loop-less Inv-loop μ-loop
 loop-less c = search needs
 
 loop-again : tie.Need-loop-again Inv-loop μ-loop
-loop-again c = (c .before .before .before .before .before .loop .inv .0, omega arith, rw (c .with-digit .ensures) (reading-more _ _ _ (c .before .before .before .before .before .loop .inv .2) (omega arith) (sym (c .before .before .is-digit .ensures) ∙ not-false _ (c .before .if2 .left))))
+loop-again c =
+    let inv = c .before .before .before .before .before .loop .inv in
+    let digit = sym (c .before .before .is-digit .ensures) ∙ not-false _ (c .before .if2 .left) in
+    (inv .0, omega arith, rw (c .with-digit .ensures) (reading-more _ _ _ (inv .2) (omega arith) digit))
 
 returns-3 : tie.Need-returns-3 Inv-loop μ-loop
-returns-3 c = reading-ends _ _ _ (c .before .loop .inv .2) (omega arith) (c .before .loop .inv .0) (c .before .loop .inv .1)
+returns-3 c =
+    let inv = c .before .loop .inv in
+    reading-ends _ _ _ (inv .2) (omega arith) (inv .0) (inv .1)
 
 pub read-spec : {M : Type 1} → statement M
 read-spec =

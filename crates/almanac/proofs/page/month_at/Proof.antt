@@ -32,7 +32,9 @@ add-place : tie.Need-add-place
 add-place c = search needs
 
 sub-month-line : tie.Need-sub-month-line
-sub-month-line c = head-rises _ (c .before .before .before .before .before .before .before .before .pre .1) _ (c .before .before .before .before .before .before .before .before .pre .2)
+sub-month-line c =
+    let start = c .before .before .before .before .before .before .before .before in
+    head-rises _ (start .pre .1) _ (start .pre .2)
 
 month-line-requires : tie.Need-month-line-requires
 month-line-requires c κs = search needs

@@ -21,7 +21,9 @@ loop-holds : tie.Need-loop-holds Inv-loop μ-loop
 loop-holds c = search needs
 
 month-at-requires : tie.Need-month-at-requires Inv-loop μ-loop
-month-at-requires c κs = (omega (arith, thirteen-at-most _ (c .before .before .before .before .before .pre .1)), c .before .before .before .before .before .pre .1, omega arith)
+month-at-requires c κs =
+    let tiled = c .before .before .before .before .before .pre .1 in
+    (omega (arith, thirteen-at-most _ tiled), tiled, omega arith)
 
 add-i : tie.Need-add-i Inv-loop μ-loop
 add-i c = search needs

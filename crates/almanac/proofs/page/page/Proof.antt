@@ -28,7 +28,11 @@ solar-lines-requires : tie.Need-solar-lines-requires
 solar-lines-requires c κs = search needs
 
 lunar-lines-requires : tie.Need-lunar-lines-requires
-lunar-lines-requires c κs = (omega arith, subst Tiled (sym (c .before .before .before .before .before .before .before .before .before .before .before .year .ensures)) (accepted-tiled _ _ (sym (ap (λ v. v .refusal) (c .before .before .before .before .before .before .before .before .before .before .before .year .ensures)) ∙ c .before .before .before .before .before .before .before .before .before .before .if1 .left)))
+lunar-lines-requires c κs =
+    let accepted = c .before .before .before .before .before .before .before .before .before .before in
+    let year = accepted .before .year .ensures in
+    let no-refusal = sym (ap (λ v. v .refusal) year) ∙ accepted .if1 .left in
+    (omega arith, subst Tiled (sym year) (accepted-tiled _ _ no-refusal))
 
 sheet-requires : tie.Need-sheet-requires
 sheet-requires c κs = search needs

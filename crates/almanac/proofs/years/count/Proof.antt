@@ -54,7 +54,8 @@ loop-again : tie.Need-loop-again Inv-loop μ-loop
 loop-again c =
     let start = c .before .before .before .before .before .before .before .before .before in
     let loop = c .before .before .before .before .before .loop in
-    ahead-next _ _ (start .pre .0) (start .pre .1) (loop .ahead) (loop .place) (loop .inv) (omega arith) (c .capped .result) (omega arith) (omega arith)
+    ahead-next _ _ (start .pre .0) (start .pre .1) (loop .ahead) (loop .place) (loop .inv) (omega arith)
+    (c .capped .result) (omega arith) (omega arith)
 
 add-capped : tie.Need-add-capped Inv-loop μ-loop
 add-capped c = omega (arith, c .before .loop .inv .is)

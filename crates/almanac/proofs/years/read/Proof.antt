@@ -30,17 +30,18 @@ returns-2 c = no-last _ _ (sym (c .before .before .read2 .ensures) ∙ c .enum-t
 
 count-requires : tie.Need-count-requires
 count-requires c κs =
-    range-digits _ _ _ _
-    (sym (c .before .before .before .before .before .before .read .ensures) ∙ c .before .before .before .before .year .given .1)
-    (sym (c .before .before .read2 .ensures) ∙ c .enum-told2 .given .1)
+    let year = c .before .before .before .before in
+    let first-is = sym (year .before .before .read .ensures) ∙ year .year .given .1 in
+    let last-is = sym (c .before .before .read2 .ensures) ∙ c .enum-told2 .given .1 in
+    range-digits _ _ _ _ first-is last-is
 
 returns-3 : tie.Need-returns-3
 returns-3 c =
-    a-range _ _ _ _
-    (sym (c .before .before .before .before .before .before .before .read .ensures) ∙ c .before .before .before .before .before .year .given .1)
-    (sym (c .before .before .before .read2 .ensures) ∙ c .before .enum-told2 .given .1)
-    (c .count .result)
-    (c .count .ensures)
+    let last = c .before in
+    let year = last .before .before .before .before in
+    let first-is = sym (year .before .before .read .ensures) ∙ year .year .given .1 in
+    let last-is = sym (last .before .before .read2 .ensures) ∙ last .enum-told2 .given .1 in
+    a-range _ _ _ _ first-is last-is (c .count .result) (c .count .ensures)
 
 pub read-spec : {M : Type 1} → statement M
 read-spec =
