@@ -119,7 +119,8 @@ module _ (text : List ℕ) (n : ℕ) (e : argumentOf text ≡ Argument.Number n)
   pub its-value : n ≡ min most (numberOf text)
   unfolding argumentOf the-number
   its-value =
-      ap the-number (sym e) ∙ ap (λ is-number. the-number (cond is-number (Argument.Number (min most (numberOf text))) Argument.Other)) a-number
+      let read = Argument.Number (min most (numberOf text)) in
+      ap the-number (sym e) ∙ ap (λ is-number. the-number (cond is-number read Argument.Other)) a-number
 
 pub number-digits : (text : List ℕ) → isNumber text ≡ true → allDigits text ≡ true
 unfolding isNumber

@@ -10,7 +10,8 @@ use borrow.Author.Tests.{le-leb, lt-leb, eq-eqb, ne-eqb}
 use Rattle.reckoning.proofs.Refusals.{inside-of}
 use Rattle.citation.specs.Record.{lengthField}
 use Rattle.lines.specs.Line.{lineOf, refusedLine}
-use Rattle.lines.specs.Program.{framed, Framing, recordThen, framingWithin, framing, linesOf, endingOf, outputOf, Portion, noPortion, portionThen, portion, portionOf}
+use Rattle.lines.specs.Program.{framed, Framing, recordThen, framingWithin, framing, linesOf, endingOf, outputOf}
+use Rattle.lines.specs.Program.{Portion, noPortion, portionThen, portion, portionOf}
 use Rattle.lines.proofs.Framing.{framed-is}
 
 pub by-bool : {P : Type 0} (b : Bool) → (b ≡ true → P) → (b ≡ false → P) → P
@@ -72,7 +73,10 @@ written f = linesOf (f .records) ++ endingOf (f .rest)
 
 pub output-line : (s : List ℕ) → framed s ≡ true → outputOf s ≡ lineOf (take (lengthField s) s) ++ outputOf (drop (lengthField s) s)
 unfolding linesOf
-output-line s e = ap written (framing-more s e) ∙ append-assoc (lineOf (take (lengthField s) s)) (linesOf (framing (rest-of s) .records)) (endingOf (framing (rest-of s) .rest))
+output-line s e =
+    let others = framing (rest-of s) in
+    ap written (framing-more s e)
+    ∙ append-assoc (lineOf (take (lengthField s) s)) (linesOf (others .records)) (endingOf (others .rest))
 
 pub output-stop : (s : List ℕ) → 0 < length s → framed s ≡ false → outputOf s ≡ refusedLine 1
 unfolding linesOf
@@ -94,10 +98,12 @@ portion-none s size e = ap (λ f. portion (f .records) size) (framing-none s e)
 
 pub portion-more : (s : List ℕ) (size : ℕ) → 64 ≤ size → framed s ≡ true
     → portionOf s size
-    ≡ portionThen (lengthField s) (lineOf (take (lengthField s) s)) (portionOf (drop (lengthField s) s) (size - length (lineOf (take (lengthField s) s))))
+    ≡ portionThen (lengthField s) (lineOf (take (lengthField s) s))
+    (portionOf (drop (lengthField s) s) (size - length (lineOf (take (lengthField s) s))))
 unfolding portion
 portion-more s size h e =
     let line = lineOf (take (lengthField s) s) in
+    let others = portionOf (rest-of s) (size - length line) in
     ap (λ f. portion (f .records) size) (framing-more s e)
-    ∙ ap (λ b. cond b (portionThen (length (take (lengthField s) s)) line (portionOf (rest-of s) (size - length line))) noPortion) (le-leb 64 size h)
-    ∙ ap (λ n. portionThen n line (portionOf (rest-of s) (size - length line))) (length-take-le (lengthField s) s (framed-is s e .all-there))
+    ∙ ap (λ b. cond b (portionThen (length (take (lengthField s) s)) line others) noPortion) (le-leb 64 size h)
+    ∙ ap (λ n. portionThen n line others) (length-take-le (lengthField s) s (framed-is s e .all-there))

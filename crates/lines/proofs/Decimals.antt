@@ -38,15 +38,32 @@ module _ (n : ℕ) where
   pub six-at-most : 10_000 ≤ n → n < 1_000_000
       → (decimal (n / 10_000) ++ twoDigits (n / 100 % 100)) ++ twoDigits (n % 100) ≡ decimal n
   unfolding decimal
-  six-at-most a b = simp (lt-ltb (n / 10_000) 100 (omega arith), le-ltb n 100 (omega arith), le-ltb n 10_000 a, lt-ltb n 1_000_000 b, append-assoc)
+  six-at-most a b =
+      simp (
+        lt-ltb (n / 10_000) 100 (omega arith),
+        le-ltb n 100 (omega arith),
+        le-ltb n 10_000 a,
+        lt-ltb n 1_000_000 b,
+        append-assoc,
+      )
 
   pub eight-at-most : 1_000_000 ≤ n → n < 100_000_000
       → ((decimal (n / 1_000_000) ++ twoDigits (n / 10_000 % 100)) ++ twoDigits (n / 100 % 100)) ++ twoDigits (n % 100) ≡ decimal n
   unfolding decimal
-  eight-at-most a b = simp (lt-ltb (n / 1_000_000) 100 (omega arith), le-ltb n 100 (omega arith), le-ltb n 10_000 (omega arith), le-ltb n 1_000_000 a, lt-ltb n 100_000_000 b, append-assoc)
+  eight-at-most a b =
+      simp (
+        lt-ltb (n / 1_000_000) 100 (omega arith),
+        le-ltb n 100 (omega arith),
+        le-ltb n 10_000 (omega arith),
+        le-ltb n 1_000_000 a,
+        lt-ltb n 100_000_000 b,
+        append-assoc,
+      )
 
   pub ten-at-most : 100_000_000 ≤ n → n < 10_000_000_000
-      → (((decimal (n / 100_000_000) ++ twoDigits (n / 1_000_000 % 100)) ++ twoDigits (n / 10_000 % 100)) ++ twoDigits (n / 100 % 100)) ++ twoDigits (n % 100)
+      → (((decimal (n / 100_000_000) ++ twoDigits (n / 1_000_000 % 100)) ++ twoDigits (n / 10_000 % 100))
+      ++ twoDigits (n / 100 % 100))
+      ++ twoDigits (n % 100)
       ≡ decimal n
   unfolding decimal
   ten-at-most a b =

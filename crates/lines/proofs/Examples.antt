@@ -26,5 +26,6 @@ abbrev pub last-line : List ℕ
 last-line = 114 ∷ 101 ∷ 102 ∷ 117 ∷ 115 ∷ 101 ∷ 100 ∷ 32 ∷ 49 ∷ 10 ∷ []
 
 pub shown-run : outputOf (case-9 ++ 0x00 ∷ []) ≡ day-line ++ day-line ++ day-line ++ day-line ++ last-line
-unfolding framingWithin linesOf lineOf decimal judgeOf judgeKind judgeDay judgeName judgeOrdinal judgeRegisterDay yearRefusal daysOf monthOf monthIn dateOf dateIn
+unfolding framingWithin linesOf lineOf decimal
+    judgeOf judgeKind judgeDay judgeName judgeOrdinal judgeRegisterDay yearRefusal daysOf monthOf monthIn dateOf dateIn
 shown-run = refl

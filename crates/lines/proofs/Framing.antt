@@ -33,7 +33,8 @@ module _ (s : List ℕ) (at size : ℕ) where
   unfolding nextOf
   bad-field h l e = simp (le-leb 64 size h, le-leb 2 (length (drop at s)) (omega (arith, length-drop at s)), e)
 
-  pub too-few : 64 ≤ size → 2 ≤ length s - at → outside 4 64 (lengthField (drop at s)) ≡ false → length s - at < lengthField (drop at s) → 0 ≡ nextOf s at size
+  pub too-few : 64 ≤ size → 2 ≤ length s - at → outside 4 64 (lengthField (drop at s)) ≡ false → length s - at < lengthField (drop at s)
+      → 0 ≡ nextOf s at size
   unfolding nextOf
   too-few h l e f =
       simp (
@@ -109,8 +110,8 @@ next-is s at size n e some = go (leb 64 size) (framed (drop at s)) refl refl e
 module _ (f t : List ℕ) (e : framed f ≡ true) where
   same-field : lengthField (f ++ t) ≡ lengthField f
   same-field =
-      let g = framed-is f e in
-      ap₂ (λ a b. a + 256 * b) (List·getD-append f t 0 0 (omega (arith, g .has-field))) (List·getD-append f t 0 1 (omega (arith, g .has-field)))
+      let two = framed-is f e .has-field in
+      ap₂ (λ a b. a + 256 * b) (List·getD-append f t 0 0 (omega arith)) (List·getD-append f t 0 1 (omega arith))
 
   pub still-framed : framed (f ++ t) ≡ true
   still-framed =

@@ -38,7 +38,9 @@ module _ (s out out′ : List ℕ) (read written written′ size n : ℕ) (here 
       let line = lineOf (take n f) in
       let same : read + n - read ≡ n = omega arith in
       let line-is : lineOf (take (read + n - read) f) ≡ line = ap (λ k. lineOf (take k f)) same in
-      let text : take written′ out′ ≡ take written out ++ line = wrote-front out out′ _ written written′ w ∙ ap (λ t. take written out ++ t) line-is in
+      let text : take written′ out′ ≡ take written out ++ line =
+      wrote-front out out′ _ written written′ w ∙ ap (λ t. take written out ++ t) line-is
+      in
       let left : size - written - length line ≡ size - written′ = omega (arith, w .ends, ap length line-is) in
       let p = portionOf (drop (read + n) s) (size - written′) in
       let next : portionOf f (size - written) ≡ portionThen n line p =
@@ -49,9 +51,10 @@ module _ (s out out′ : List ℕ) (read written written′ size n : ℕ) (here 
       ∙ ap₂ (λ r k. portionThen n line (portionOf r k)) (drop-drop n read s) left
       in
       let far : read + (n + p .read) ≡ read + n + p .read = omega arith in
+      let longer = sym (append-assoc (take written out) line (p .text)) ∙ ap (λ t. t ++ p .text) (sym text) in
       so-far
       ∙ ap (portionThen read (take written out)) next
-      ∙ ap₂ (λ k t. record { read = k; text = t }) far (sym (append-assoc (take written out) line (p .text)) ∙ ap (λ t. t ++ p .text) (sym text))
+      ∙ ap₂ (λ k t. record { read = k; text = t }) far longer
 
   pub rest-kept : (before : List ℕ) → drop written out ≡ drop written before → drop written′ out′ ≡ drop written′ before
   rest-kept before e =

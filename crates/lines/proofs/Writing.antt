@@ -21,24 +21,37 @@ wrote-byte b at x h =
       same-length = length-set b at x;
     }
 
+-- What stands before the end of a text, and after it.
+module _ (b a x : List ℕ) (at e : ℕ) (w : Wrote b at x a e) where
+  ends-there : length (take at b ++ x) ≡ e
+  ends-there = length-append (take at b) x ∙ ap (λ n. n + length x) (length-take-le at b (omega (arith, w))) ∙ sym (w .ends)
+
+  in-two : a ≡ (take at b ++ x) ++ drop (at + length x) b
+  in-two = w .is ∙ sym (append-assoc (take at b) x (drop (at + length x) b))
+
+  pub wrote-front : take e a ≡ take at b ++ x
+  wrote-front = ap (take e) in-two ∙ take-at (take at b ++ x) (drop (at + length x) b) e ends-there
+
+  after-text : drop e a ≡ drop (at + length x) b
+  after-text = ap (drop e) in-two ∙ drop-at (take at b ++ x) (drop (at + length x) b) e ends-there
+
+  pub wrote-back : drop e a ≡ drop e b
+  wrote-back = after-text ∙ ap (λ n. drop n b) (sym (w .ends))
+
 -- One piece after another.
 pub wrote-then : {b m a x y : List ℕ} {at p e : ℕ} → Wrote b at x m p → Wrote m p y a e → Wrote b at (x ++ y) a e
 wrote-then {b} {m} {a} {x} {y} {at} {p} {e} w v =
-    let front : length (take at b ++ x) ≡ p = length-append (take at b) x ∙ ap (λ n. n + length x) (length-take-le at b (omega (arith, w))) ∙ sym (w .ends) in
-    let whole : m ≡ (take at b ++ x) ++ drop (at + length x) b = w .is ∙ sym (append-assoc (take at b) x (drop (at + length x) b)) in
-    let taken : take p m ≡ take at b ++ x = ap (take p) whole ∙ take-at (take at b ++ x) (drop (at + length x) b) p front in
-    let dropped : drop p m ≡ drop (at + length x) b = ap (drop p) whole ∙ drop-at (take at b ++ x) (drop (at + length x) b) p front in
     let far : at + length x + length y ≡ at + length (x ++ y) = omega (arith, length-append x y) in
     let rest : drop (p + length y) m ≡ drop (at + length (x ++ y)) b =
     sym (drop-drop (length y) p m)
-    ∙ ap (drop (length y)) dropped
+    ∙ ap (drop (length y)) (after-text b m x at p w)
     ∙ drop-drop (length y) (at + length x) b
     ∙ ap (λ n. drop n b) far
     in
     record {
       is =
           v .is
-          ∙ ap₂ (λ f r. f ++ (y ++ r)) taken rest
+          ∙ ap₂ (λ f r. f ++ (y ++ r)) (wrote-front b m x at p w) rest
           ∙ append-assoc (take at b) x (y ++ drop (at + length (x ++ y)) b)
           ∙ ap (λ t. take at b ++ t) (sym (append-assoc x y (drop (at + length (x ++ y)) b)));
       ends = omega (arith, w .ends, v .ends, length-append x y);
@@ -65,16 +78,3 @@ wrote-pair b at both x y h l =
     let one-both : both ≡ 1 = omega arith in
     subst (λ k. Wrote b at (cond (eqb k 0) (y ∷ []) (x ∷ y ∷ [])) (set (set b at x) (at + k) y) (at + k + 1)) (sym one-both)
     (wrote-then (wrote-byte b at x (omega arith)) (wrote-byte (set b at x) (at + 1) y (omega (arith, length-set b at x)))))
-
--- What stands before the end of a text, and after it.
-pub wrote-front : (b a x : List ℕ) (at e : ℕ) → Wrote b at x a e → take e a ≡ take at b ++ x
-wrote-front b a x at e w =
-    let front : length (take at b ++ x) ≡ e = length-append (take at b) x ∙ ap (λ n. n + length x) (length-take-le at b (omega (arith, w))) ∙ sym (w .ends) in
-    ap (take e) (w .is ∙ sym (append-assoc (take at b) x (drop (at + length x) b))) ∙ take-at (take at b ++ x) (drop (at + length x) b) e front
-
-pub wrote-back : (b a x : List ℕ) (at e : ℕ) → Wrote b at x a e → drop e a ≡ drop e b
-wrote-back b a x at e w =
-    let front : length (take at b ++ x) ≡ e = length-append (take at b) x ∙ ap (λ n. n + length x) (length-take-le at b (omega (arith, w))) ∙ sym (w .ends) in
-    ap (drop e) (w .is ∙ sym (append-assoc (take at b) x (drop (at + length x) b)))
-    ∙ drop-at (take at b ++ x) (drop (at + length x) b) e front
-    ∙ ap (λ n. drop n b) (sym (w .ends))

@@ -2,11 +2,10 @@ use Prim.Native.Nat.{_+_, _*_}
 use mathlib.Core.Path.{ap, ap₂, _∙_}
 use native.Mathlib.Omega.{arith}
 use mathlib.Core.List.{[], _∷_, _++_}
-use lib.ListN.{getD}
-use Rattle.lines.specs.Decimal.{decimal}
+use Rattle.citation.specs.Record.{leapField, dayField}
 use Rattle.lines.specs.Line.{field, letterOf, star}
 use Rattle.lines.proofs.Writing.{wrote-as, wrote-then}
-use Rattle.lines.proofs.Lines.{star-and-space}
+use Rattle.lines.proofs.Lines.{wrote-star-day}
 use borrow.Author.Needs.{needs}
 use Rattle.lines.proofs.line.put_date.Statement.{statement}
 use Rattle.lines.proofs.line.put_date.Tie as tie
@@ -82,22 +81,24 @@ returns c =
     let year-put = month-put .before .before .before .before .before in
     let letter-put = year-put .before .before .before .before in
     let start = letter-put .before .before .before .before .before .before .before in
-    let leap = getD (start .args .t3) 8 0 in
+    let stored = start .args .t3 in
+    let leap = leapField stored in
     let both = star-put .before .stars in
-    let day = day-put .before .wide5 in
     let system-read = letter-put .before .before .wide3 .ensures .0 in
     let low-read = letter-put .before .before .before .before .before .wide .ensures .0 in
     let high-read = letter-put .before .before .before .before .wide2 .ensures .0 in
     let month-read = month-put .before .wide4 .ensures .0 in
+    let day-read = day-put .before .wide5 .ensures .0 in
     let letter-is = letter-put .before .letter .ensures ∙ ap letterOf system-read in
     let year-is = ap₂ (λ low high. low + 256 * high) low-read high-read in
-    let star-is = star-and-space leap (both .result) (decimal (day .result)) (both .ensures .0) in
-    let last-is = star-is ∙ ap (λ n. star leap ++ field n) (day .ensures .0) in (
-      wrote-as (λ i. (letter-is i ∷ []) ++ (field (year-is i) ++ (field (month-read i) ++ last-is i)))
+    let last = star leap ++ field (dayField stored) in (
+      wrote-as (λ i. (letter-is i ∷ []) ++ (field (year-is i) ++ (field (month-read i) ++ last)))
           (wrote-then (letter-put .byte .ensures .0)
           (wrote-then (year-put .field .ensures .0)
           (wrote-then (month-put .small-field .ensures .0)
-          (wrote-then (star-put .pair .ensures .0) (day-put .below-100 .ensures .0))))),
+          (wrote-star-day leap (both .result) (both .ensures .0) day-read
+          (star-put .pair .ensures .0)
+          (day-put .below-100 .ensures .0))))),
       omega arith,
     )
 
