@@ -7,15 +7,12 @@ use native.Mathlib.Omega.{arith}
 use lib.ListN.{length, take, getD}
 use lib.Seq.{take-suc, take-length}
 use borrow.Author.Tests.{le-leb, lt-leb}
+use Rattle.calendar.proofs.Cases.{both}
 use Rattle.calendar.proofs.Rising.{by-order}
 use Rattle.lines.specs.Decimal.{withDigits, numberOf}
 use Rattle.almanac.specs.Argument.{isDigit, allDigits}
 use Rattle.almanac.specs.Years.{longest, digitAt, countOf}
 use Rattle.almanac.proofs.Digits.{a-digit}
-
-both : (a b : Bool) → (a && b) ≡ true → (a ≡ true) × (b ≡ true)
-both true b e = (refl, e)
-both false b e = (e, absurd (true≢false (sym e)))
 
 -- one digit more after the last
 digit-after : (n : ℕ) (text : List ℕ) (byte : ℕ) → withDigits n (text ++ byte ∷ []) ≡ withDigits n text * 10 + (byte - 48)

@@ -1,6 +1,8 @@
 -- The laws of the reckoning, each proved once. `Laws` is the summary.
 -- Whole division: scalings, and how they are inverted.
 pub mod Division
+-- Tests taken apart.
+pub mod Cases
 -- Functions that rise at each step.
 pub mod Rising
 -- What holds in every calendar.

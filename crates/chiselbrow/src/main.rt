@@ -20,7 +20,11 @@ struct Done {
 // Writes as many lines as one output buffer takes.
 fn convert_once(input: &[u8], from: usize, out: &mut [u8]) -> Done
     requires { ⌜ from ≤ length (now input) ⌝ }
-    ensures { λ r. ⌜ (r .to ≡ from + portionOf (drop from (now (input .entry))) (length (now (out .entry))) .read) × (r .to ≤ length (now (input .entry))) × (length (now (out .exit)) ≡ length (now (out .entry))) ⌝ }
+    ensures { λ r. ⌜
+        (r .to ≡ from + portionOf (drop from (now (input .entry))) (length (now (out .entry))) .read)
+        × (r .to ≤ length (now (input .entry)))
+        × (length (now (out .exit)) ≡ length (now (out .entry)))
+        ⌝ }
 {
     let p = convert(&input[from..], out);
     if p.read == 0 {
@@ -58,7 +62,10 @@ fn convert_all(input: &[u8], out: &mut [u8]) -> Done
 // Moves the bytes from `from` on to the front, and gives their number.
 fn keep(buffer: &mut [u8], from: usize, to: usize) -> usize
     requires { ⌜ (from ≤ to) × (to ≤ length (now buffer)) ⌝ }
-    ensures { λ r. ⌜ (r ≡ to - from) × (now (buffer .exit) ≡ paste (now (buffer .entry)) 0 (drop from (now (buffer .entry))) (to - from)) ⌝ }
+    ensures { λ r. ⌜
+        (r ≡ to - from)
+        × (now (buffer .exit) ≡ paste (now (buffer .entry)) 0 (drop from (now (buffer .entry))) (to - from))
+        ⌝ }
 {
     let mut i = 0;
     while i < to - from {

@@ -7,7 +7,8 @@ use native.Mathlib.Omega.{arith}
 use lib.Dec.{leb}
 use lib.ListN.{length, getD, take, drop, length-append, length-drop, List·getD-append}
 use lib.Seq.{getD-drop, take-append-le, drop-append-le}
-use borrow.Author.Tests.{le-leb, lt-leb, leb-true}
+use borrow.Author.Tests.{le-leb, lt-leb, leb-true, not-true}
+use Rattle.calendar.proofs.Cases.{both}
 use Rattle.reckoning.specs.Refusal.{outside}
 use Rattle.reckoning.proofs.Refusals.{inside-of}
 use Rattle.citation.specs.Record.{lengthField}
@@ -61,22 +62,13 @@ pub record Framed (f : List ℕ) : Type 0 where
   pub field-inside : outside 4 64 (lengthField f) ≡ false
   pub all-there : lengthField f ≤ length f
 
-both : (a b : Bool) → a && b ≡ true → (a ≡ true) × (b ≡ true)
-both true true e = (refl, refl)
-both true false e = absurd (true≢false (sym e))
-both false b e = absurd (true≢false (sym e))
-
-not-so : (a : Bool) → not a ≡ true → a ≡ false
-not-so true e = absurd (true≢false (sym e))
-not-so false e = refl
-
 pub framed-is : (f : List ℕ) → framed f ≡ true → Framed f
 framed-is f e =
     let a = both (leb 2 (length f)) (not (outside 4 64 (lengthField f)) && leb (lengthField f) (length f)) e in
     let b = both (not (outside 4 64 (lengthField f))) (leb (lengthField f) (length f)) (a .1) in
     record {
       has-field = leb-true 2 (length f) (a .0);
-      field-inside = not-so (outside 4 64 (lengthField f)) (b .0);
+      field-inside = not-true (outside 4 64 (lengthField f)) (b .0);
       all-there = leb-true (lengthField f) (length f) (b .1);
     }
 

@@ -8,6 +8,7 @@ use lib.Dec.{leb}
 use lib.ListN.{length, take, drop, length-drop, take-append-drop}
 use lib.Seq.{drop-drop, length-take-le}
 use borrow.Author.Tests.{le-leb}
+use Rattle.calendar.proofs.Cases.{by-bool}
 use Rattle.calendar.proofs.Rising.{by-order}
 use Rattle.citation.specs.Record.{lengthField}
 use Rattle.lines.specs.declared.convert.Progress.{Progress}
@@ -16,7 +17,7 @@ use Rattle.lines.specs.Wrote.{Wrote}
 use Rattle.lines.specs.Program.{framed, framing, Portion, noPortion, portionThen, portionOf, nextOf, progressOf, linesInto}
 use Rattle.lines.proofs.Writing.{wrote-front, wrote-back}
 use Rattle.lines.proofs.Framing.{Next}
-use Rattle.lines.proofs.Cutting.{by-bool, some-bytes, portion-full, portion-none, portion-more}
+use Rattle.lines.proofs.Cutting.{some-bytes, portion-full, portion-none, portion-more}
 
 -- The lines so far, and then what the rest of the output takes, are what the whole takes.
 abbrev pub SoFar : List ℕ → ℕ → ℕ → List ℕ → ℕ → Type 0

@@ -6,12 +6,13 @@ use mathlib.Core.List.{List, _++_, append-assoc}
 use native.Mathlib.Omega.{arith}
 use lib.ListN.{length, take, drop}
 use lib.Seq.{drop-drop}
+use Rattle.calendar.proofs.Cases.{by-bool}
 use Rattle.calendar.proofs.Rising.{by-order}
 use Rattle.citation.specs.Record.{lengthField}
 use Rattle.lines.specs.Line.{lineOf}
 use Rattle.lines.specs.Program.{framed, framing, outputOf, Portion, noPortion, portionThen, portionOf}
 use Rattle.lines.proofs.Framing.{still-framed, same-front, same-back}
-use Rattle.lines.proofs.Cutting.{by-bool, shorter, too-short, output-line, portion-full, portion-none, portion-more}
+use Rattle.lines.proofs.Cutting.{shorter, too-short, output-line, portion-full, portion-none, portion-more}
 
 module _ (t : List ℕ) where
   -- The lines of a portion of s, and then what is written on its rest and t, are what is written on s and t.

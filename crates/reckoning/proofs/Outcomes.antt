@@ -12,6 +12,7 @@ use Rattle.calendar.specs.Month.{monthHead}
 use Rattle.calendar.specs.Year.{Span, yearHead, nextHead, MonthNamed}
 use Rattle.calendar.specs.ClosedForms.{monthOfDay, yearOfMonth, headOfYear, monthNumber, leapMark, monthCited, leapFollows}
 use Rattle.calendar.proofs.EachSystem.{consistent}
+use Rattle.calendar.proofs.Cases.{by-bool}
 use Rattle.calendar.proofs.Rising.{by-order}
 use Rattle.calendar.proofs.Reckoned.{reckoned}
 use Rattle.calendar.proofs.Spans.{span, span-first, span-next, in-year, within}
@@ -42,10 +43,6 @@ days-outcome system year =
     subst (O.DaysOutcome system year) (answered-year daysIn noDays system year s)
     (O.DaysOutcome.found
     (record { in-scope = s; span = span c (consistent system) n; not-refused = refl; head-is = omega arith; length-is = omega arith })))
-
-by-bool : {P : Type 0} (b : Bool) → (b ≡ true → P) → (b ≡ false → P) → P
-by-bool true f g = f refl
-by-bool false f g = g refl
 
 -- A month of a year in scope, answered.
 found-month : (system year number leap k : ℕ) → InScope system year → Inside 1 12 number → Inside 0 1 leap
