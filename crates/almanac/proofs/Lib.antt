@@ -7,3 +7,5 @@ pub mod Digits
 pub mod Places
 -- The years of a range, by what its ends are.
 pub mod Ranges
+-- The text of a page from its pieces.
+pub mod Pages

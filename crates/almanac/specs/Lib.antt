@@ -3,3 +3,5 @@
 pub mod Argument
 -- How many years a range has.
 pub mod Years
+-- The page of a year.
+pub mod Page

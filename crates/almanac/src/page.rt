@@ -1,7 +1,12 @@
 // The page of a year. Each function asks for the room that its longest text takes, a number taking ten digits.
+ghost use mathlib.Core.Path.{_≡_};
 ghost use Prim.Native.Nat.{_+_, _≤_, _<_};
 ghost use lib.ListN.{length};
+ghost use Rattle.calendar.specs.Name.{nameOf};
 ghost use Rattle.reckoning.specs.YearValue.{Tiled};
+ghost use Rattle.lines.specs.Line.{star, refusedLine};
+ghost use Rattle.lines.specs.Wrote.{Wrote};
+ghost use Rattle.almanac.specs.Page.{dayText, systemText, yearLine, solsticeLine, qiLine, monthLine};
 use crate::text::field;
 use crate::text::word;
 use calendar::data::RegisterDay;
@@ -10,18 +15,22 @@ use reckoning::data::Sheet;
 use reckoning::data::Solstice;
 use reckoning::data::Year;
 
-fn wide(x: u8) -> u32 {
+fn wide(x: u8) -> u32
+    ensures { λ r. ⌜ r ≡ x ⌝ }
+{
     x as u32
 }
 
-fn name(day: RegisterDay) -> u32 {
+fn name(day: RegisterDay) -> u32
+    ensures { λ r. ⌜ r ≡ nameOf (day .0) ⌝ }
+{
     wide(reckoning::day_name(day).0)
 }
 
 // A register day and its name.
 fn day(out: &mut [u8], at: usize, day: RegisterDay) -> usize
     requires { ⌜ at + 22 ≤ length (now out) ⌝ }
-    ensures { λ r. ⌜ r ≤ at + 22 ⌝ }
+    ensures { λ r. ⌜ Wrote (now (out .entry)) at (dayText (day .0)) (now (out .exit)) r × (r ≤ at + 22) ⌝ }
 {
     let at = field(out, at, day.0);
     field(out, at, name(day))
@@ -29,7 +38,7 @@ fn day(out: &mut [u8], at: usize, day: RegisterDay) -> usize
 
 fn system_letter(out: &mut [u8], at: usize, system: u32) -> usize
     requires { ⌜ at + 2 ≤ length (now out) ⌝ }
-    ensures { λ r. ⌜ r ≤ at + 2 ⌝ }
+    ensures { λ r. ⌜ Wrote (now (out .entry)) at (systemText system) (now (out .exit)) r × (r ≤ at + 2) ⌝ }
 {
     let bytes = [b' ', lines::text::letter(system)];
     word(out, at, &bytes)
@@ -37,7 +46,7 @@ fn system_letter(out: &mut [u8], at: usize, system: u32) -> usize
 
 fn refused_line(out: &mut [u8], at: usize, refusal: u8) -> usize
     requires { ⌜ at + 19 ≤ length (now out) ⌝ }
-    ensures { λ r. ⌜ r ≤ at + 19 ⌝ }
+    ensures { λ r. ⌜ Wrote (now (out .entry)) at (refusedLine refusal) (now (out .exit)) r × (r ≤ at + 19) ⌝ }
 {
     let at = word(out, at, b"refused");
     let at = field(out, at, wide(refusal));
@@ -46,7 +55,9 @@ fn refused_line(out: &mut [u8], at: usize, refusal: u8) -> usize
 
 fn year_line(out: &mut [u8], at: usize, system: u32, year: u32, months: u8, days: u16) -> usize
     requires { ⌜ at + 40 ≤ length (now out) ⌝ }
-    ensures { λ r. ⌜ r ≤ at + 40 ⌝ }
+    ensures { λ r. ⌜
+        Wrote (now (out .entry)) at (yearLine system year months days) (now (out .exit)) r × (r ≤ at + 40)
+        ⌝ }
 {
     let at = word(out, at, b"year");
     let at = system_letter(out, at, system);
@@ -58,7 +69,7 @@ fn year_line(out: &mut [u8], at: usize, system: u32, year: u32, months: u8, days
 
 fn solstice_line(out: &mut [u8], at: usize, solstice: Solstice) -> usize
     requires { ⌜ at + 42 ≤ length (now out) ⌝ }
-    ensures { λ r. ⌜ r ≤ at + 42 ⌝ }
+    ensures { λ r. ⌜ Wrote (now (out .entry)) at (solsticeLine solstice) (now (out .exit)) r × (r ≤ at + 42) ⌝ }
 {
     let at = word(out, at, b"solstice");
     let at = day(out, at, solstice.day);
@@ -68,7 +79,7 @@ fn solstice_line(out: &mut [u8], at: usize, solstice: Solstice) -> usize
 
 fn qi_line(out: &mut [u8], at: usize, i: u32, qi: Qi) -> usize
     requires { ⌜ at + 58 ≤ length (now out) ⌝ }
-    ensures { λ r. ⌜ r ≤ at + 58 ⌝ }
+    ensures { λ r. ⌜ Wrote (now (out .entry)) at (qiLine i qi) (now (out .exit)) r × (r ≤ at + 58) ⌝ }
 {
     let at = word(out, at, b"qi");
     let at = field(out, at, i);
@@ -103,7 +114,7 @@ fn solar_lines(out: &mut [u8], at: usize, system: u32, year: u32) -> usize
 // A leap month has a star directly after its number.
 fn star(out: &mut [u8], at: usize, leap: u8) -> usize
     requires { ⌜ at + 1 ≤ length (now out) ⌝ }
-    ensures { λ r. ⌜ r ≤ at + 1 ⌝ }
+    ensures { λ r. ⌜ Wrote (now (out .entry)) at (star leap) (now (out .exit)) r × (r ≤ at + 1) ⌝ }
 {
     if leap == 0 {
         return at;
@@ -121,7 +132,9 @@ fn month_line(
     days: u32,
 ) -> usize
     requires { ⌜ at + 62 ≤ length (now out) ⌝ }
-    ensures { λ r. ⌜ r ≤ at + 62 ⌝ }
+    ensures { λ r. ⌜
+        Wrote (now (out .entry)) at (monthLine place number leap (head .0) days) (now (out .exit)) r × (r ≤ at + 62)
+        ⌝ }
 {
     let at = word(out, at, b"month");
     let at = field(out, at, place);

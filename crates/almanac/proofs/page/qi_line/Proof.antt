@@ -1,0 +1,63 @@
+use native.Mathlib.Omega.{arith}
+use Rattle.lines.proofs.Writing.{wrote-then}
+use borrow.Author.Needs.{needs}
+use Rattle.almanac.proofs.page.qi_line.Statement.{statement}
+use Rattle.almanac.proofs.page.qi_line.Tie as tie
+
+slice-aggregate-word : tie.Need-slice-aggregate-word
+slice-aggregate-word c = search needs
+
+word-requires : tie.Need-word-requires
+word-requires c κs = search needs
+
+field-requires : tie.Need-field-requires
+field-requires c κs = search needs
+
+day-requires : tie.Need-day-requires
+day-requires c κs = search needs
+
+field-requires-2 : tie.Need-field-requires-2
+field-requires-2 c κs = search needs
+
+field-requires-3 : tie.Need-field-requires-3
+field-requires-3 c κs = search needs
+
+slice-aggregate-word-2 : tie.Need-slice-aggregate-word-2
+slice-aggregate-word-2 c = search needs
+
+word-requires-2 : tie.Need-word-requires-2
+word-requires-2 c κs = search needs
+
+same-length : tie.Need-same-length
+same-length c = search needs
+
+returns : tie.Need-returns
+returns c =
+    let end-put = c .before .before in
+    let units-put = end-put .before .before .before .before .before in
+    let parts-put = units-put .before .before .before .before in
+    let day-put = parts-put .before .before .before .before in
+    let number-put = day-put .before .before .before .before in
+    let word-put = number-put .before .before .before .before in (
+      wrote-then (word-put .word .ensures .0)
+          (wrote-then (number-put .field .ensures .0)
+          (wrote-then (day-put .day .ensures .0)
+          (wrote-then (parts-put .field2 .ensures .0)
+          (wrote-then (units-put .field3 .ensures .0) (end-put .word2 .ensures .0))))),
+      omega arith,
+    )
+
+pub qi-line-spec : {M : Type 1} → statement M
+qi-line-spec =
+    tie.close
+    (tie.spec
+    slice-aggregate-word
+    word-requires
+    field-requires
+    day-requires
+    field-requires-2
+    field-requires-3
+    slice-aggregate-word-2
+    word-requires-2
+    same-length
+    returns)
