@@ -44,9 +44,12 @@ qiLine i qi =
     (113 ∷ 105 ∷ [])
     ++ (field i ++ (dayText (qi .day .0) ++ (field (qi .parts) ++ (field (qi .units) ++ newline))))
 
--- The 24 qi of a year.
+-- Qi i of a year.
+abbrev pub qiAt : ℕ → ℕ → ℕ → List ℕ
+qiAt system year i = qiLine i (qiOf system year i)
+
 abbrev pub qiLines : ℕ → ℕ → List ℕ
-qiLines system year = textsUpTo (λ i. qiLine i (qiOf system year i)) 24
+qiLines system year = textsUpTo (qiAt system year) 24
 
 -- The solstice and the qi.
 abbrev pub solarLines : ℕ → ℕ → List ℕ
@@ -74,13 +77,16 @@ nextLine months = (110 ∷ 101 ∷ 120 ∷ 116 ∷ []) ++ (field (headIn months 
 abbrev pub lunarLines : Year → List ℕ
 lunarLines months = monthLines months ++ nextLine months
 
--- The names of a year's days.
-abbrev pub nameTexts : Sheet → ℕ → List ℕ
-nameTexts sheet days = textsUpTo (λ i. field (getD (sheet .names) i 0)) days
+-- The name of day i, from 0.
+abbrev pub nameAt : Sheet → ℕ → List ℕ
+nameAt sheet i = field (getD (sheet .names) i 0)
+
+abbrev pub sheetNames : Sheet → ℕ → List ℕ
+sheetNames sheet days = textsUpTo (nameAt sheet) days
 
 -- "names" and the names of a year's days.
 abbrev pub namesLine : Sheet → ℕ → List ℕ
-namesLine sheet days = (110 ∷ 97 ∷ 109 ∷ 101 ∷ 115 ∷ []) ++ (nameTexts sheet days ++ newline)
+namesLine sheet days = (110 ∷ 97 ∷ 109 ∷ 101 ∷ 115 ∷ []) ++ (sheetNames sheet days ++ newline)
 
 -- The lines of a year that has these months and so many days.
 abbrev pub yearLines : ℕ → ℕ → Year → ℕ → List ℕ

@@ -6,7 +6,8 @@ ghost use Rattle.calendar.specs.Name.{nameOf};
 ghost use Rattle.reckoning.specs.YearValue.{Tiled};
 ghost use Rattle.lines.specs.Line.{star, refusedLine};
 ghost use Rattle.lines.specs.Wrote.{Wrote};
-ghost use Rattle.almanac.specs.Page.{dayText, systemText, yearLine, solsticeLine, qiLine, monthLine};
+ghost use Rattle.almanac.specs.Page.{dayText, systemText, yearLine, solsticeLine, qiLine, qiLines, solarLines};
+ghost use Rattle.almanac.specs.Page.{monthLine, monthAt, monthLines, nextLine, lunarLines};
 use crate::text::field;
 use crate::text::word;
 use calendar::data::RegisterDay;
@@ -91,7 +92,7 @@ fn qi_line(out: &mut [u8], at: usize, i: u32, qi: Qi) -> usize
 
 fn qi_lines(out: &mut [u8], start: usize, system: u32, year: u32) -> usize
     requires { ⌜ start + 1392 ≤ length (now out) ⌝ }
-    ensures { λ r. ⌜ r ≤ start + 1392 ⌝ }
+    ensures { λ r. ⌜ Wrote (now (out .entry)) start (qiLines system year) (now (out .exit)) r × (r ≤ start + 1392) ⌝ }
 {
     let mut at = start;
     let mut i = 0;
@@ -105,7 +106,7 @@ fn qi_lines(out: &mut [u8], start: usize, system: u32, year: u32) -> usize
 // The solstice and the qi of a year.
 fn solar_lines(out: &mut [u8], at: usize, system: u32, year: u32) -> usize
     requires { ⌜ at + 1434 ≤ length (now out) ⌝ }
-    ensures { λ r. ⌜ r ≤ at + 1434 ⌝ }
+    ensures { λ r. ⌜ Wrote (now (out .entry)) at (solarLines system year) (now (out .exit)) r × (r ≤ at + 1434) ⌝ }
 {
     let at = solstice_line(out, at, reckoning::solstice(system, year));
     qi_lines(out, at, system, year)
@@ -148,7 +149,7 @@ fn month_line(
 // The line of the month at place i, from 0.
 fn month_at(out: &mut [u8], at: usize, months: Year, i: usize) -> usize
     requires { ⌜ (at + 62 ≤ length (now out)) × Tiled months × (i < months .count) ⌝ }
-    ensures { λ r. ⌜ r ≤ at + 62 ⌝ }
+    ensures { λ r. ⌜ Wrote (now (out .entry)) at (monthAt months i) (now (out .exit)) r × (r ≤ at + 62) ⌝ }
 {
     let head = months.heads[i];
     let next = months.heads[i + 1];
@@ -160,7 +161,7 @@ fn month_at(out: &mut [u8], at: usize, months: Year, i: usize) -> usize
 
 fn month_lines(out: &mut [u8], start: usize, months: Year) -> usize
     requires { ⌜ (start + 806 ≤ length (now out)) × Tiled months ⌝ }
-    ensures { λ r. ⌜ r ≤ start + 806 ⌝ }
+    ensures { λ r. ⌜ Wrote (now (out .entry)) start (monthLines months) (now (out .exit)) r × (r ≤ start + 806) ⌝ }
 {
     let count = months.count as usize;
     let mut at = start;
@@ -175,7 +176,7 @@ fn month_lines(out: &mut [u8], start: usize, months: Year) -> usize
 // The head of the next year.
 fn next_line(out: &mut [u8], at: usize, months: Year) -> usize
     requires { ⌜ (at + 16 ≤ length (now out)) × Tiled months ⌝ }
-    ensures { λ r. ⌜ r ≤ at + 16 ⌝ }
+    ensures { λ r. ⌜ Wrote (now (out .entry)) at (nextLine months) (now (out .exit)) r × (r ≤ at + 16) ⌝ }
 {
     let count = months.count as usize;
     let head = months.heads[count];
@@ -187,7 +188,7 @@ fn next_line(out: &mut [u8], at: usize, months: Year) -> usize
 // The months of a year, and where the next begins.
 fn lunar_lines(out: &mut [u8], at: usize, months: Year) -> usize
     requires { ⌜ (at + 822 ≤ length (now out)) × Tiled months ⌝ }
-    ensures { λ r. ⌜ r ≤ at + 822 ⌝ }
+    ensures { λ r. ⌜ Wrote (now (out .entry)) at (lunarLines months) (now (out .exit)) r × (r ≤ at + 822) ⌝ }
 {
     let at = month_lines(out, at, months);
     next_line(out, at, months)

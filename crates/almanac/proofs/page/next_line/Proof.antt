@@ -1,4 +1,5 @@
 use native.Mathlib.Omega.{arith}
+use Rattle.lines.proofs.Writing.{wrote-then}
 use Rattle.almanac.proofs.Months.{thirteen-at-most}
 use borrow.Author.Needs.{needs}
 use Rattle.almanac.proofs.page.next_line.Statement.{statement}
@@ -32,7 +33,14 @@ same-length : tie.Need-same-length
 same-length c = search needs
 
 returns : tie.Need-returns
-returns c = search needs
+returns c =
+    let end-put = c .before .before in
+    let head-put = end-put .before .before .before .before .before in
+    let word-put = head-put .before .before .before .before in (
+      wrote-then (word-put .word .ensures .0)
+          (wrote-then (head-put .field .ensures .0) (end-put .word2 .ensures .0)),
+      omega arith,
+    )
 
 pub next-line-spec : {M : Type 1} → statement M
 next-line-spec =
