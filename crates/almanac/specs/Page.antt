@@ -88,16 +88,17 @@ sheetNames sheet days = textsUpTo (nameAt sheet) days
 abbrev pub namesLine : Sheet → ℕ → List ℕ
 namesLine sheet days = (110 ∷ 97 ∷ 109 ∷ 101 ∷ 115 ∷ []) ++ (sheetNames sheet days ++ newline)
 
--- The lines of a year that has these months and so many days.
-abbrev pub yearLines : ℕ → ℕ → Year → ℕ → List ℕ
-yearLines system year months days =
+-- The lines of a year that has these months and so many days, named on the sheet.
+abbrev pub yearLines : ℕ → ℕ → Year → ℕ → Sheet → List ℕ
+yearLines system year months days sheet =
     yearLine system year (months .count) days
-    ++ (solarLines system year ++ (lunarLines months ++ namesLine (sheetOf system year) days))
+    ++ (solarLines system year ++ (lunarLines months ++ namesLine sheet days))
 
 -- The page of a year, or the line of its refusal.
 unfoldable pub pageOf : ℕ → ℕ → List ℕ
 pageOf system year =
     let months = yearOf system year in
+    let days = (daysOf system year) .length in
     cond (eqb (months .refusal) 0)
-    (yearLines system year months ((daysOf system year) .length))
+    (yearLines system year months days (sheetOf system year))
     (refusedLine (months .refusal))

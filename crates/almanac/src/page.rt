@@ -8,6 +8,7 @@ ghost use Rattle.lines.specs.Line.{star, refusedLine};
 ghost use Rattle.lines.specs.Wrote.{Wrote};
 ghost use Rattle.almanac.specs.Page.{dayText, systemText, yearLine, solsticeLine, qiLine, qiLines, solarLines};
 ghost use Rattle.almanac.specs.Page.{monthLine, monthAt, monthLines, nextLine, lunarLines};
+ghost use Rattle.almanac.specs.Page.{sheetNames, namesLine, pageOf};
 use crate::text::field;
 use crate::text::word;
 use calendar::data::RegisterDay;
@@ -194,46 +195,44 @@ fn lunar_lines(out: &mut [u8], at: usize, months: Year) -> usize
     next_line(out, at, months)
 }
 
-// The names of the sheet up to the year's end, after which it holds 255.
-fn sheet_names(out: &mut [u8], start: usize, sheet: Sheet) -> usize
-    requires { ⌜ start + 4224 ≤ length (now out) ⌝ }
-    ensures { λ r. ⌜ r ≤ start + 4224 ⌝ }
+// The names of a year's days, so many from the sheet's first on.
+fn sheet_names(out: &mut [u8], start: usize, sheet: Sheet, days: u16) -> usize
+    requires { ⌜ (start + 4224 ≤ length (now out)) × (days ≤ 384) ⌝ }
+    ensures { λ r. ⌜ Wrote (now (out .entry)) start (sheetNames sheet days) (now (out .exit)) r × (r ≤ start + 4224) ⌝ }
 {
+    let count = days as usize;
     let mut at = start;
     let mut i = 0;
-    while i < 384 {
+    while i < count {
         let name = sheet.names[i];
-        if name == 255 {
-            return at;
-        }
         at = field(out, at, wide(name));
         i += 1;
     }
     at
 }
 
-fn names_line(out: &mut [u8], at: usize, sheet: Sheet) -> usize
-    requires { ⌜ at + 4230 ≤ length (now out) ⌝ }
-    ensures { λ r. ⌜ r ≤ at + 4230 ⌝ }
+fn names_line(out: &mut [u8], at: usize, sheet: Sheet, days: u16) -> usize
+    requires { ⌜ (at + 4230 ≤ length (now out)) × (days ≤ 384) ⌝ }
+    ensures { λ r. ⌜ Wrote (now (out .entry)) at (namesLine sheet days) (now (out .exit)) r × (r ≤ at + 4230) ⌝ }
 {
     let at = word(out, at, b"names");
-    let at = sheet_names(out, at, sheet);
+    let at = sheet_names(out, at, sheet, days);
     word(out, at, b"\n")
 }
 
 // The page of a year, or the line of its refusal.
 pub(crate) fn page(out: &mut [u8], start: usize, system: u32, year: u32) -> usize
     requires { ⌜ start + 8192 ≤ length (now out) ⌝ }
-    ensures { λ r. ⌜ r ≤ start + 8192 ⌝ }
+    ensures { λ r. ⌜ Wrote (now (out .entry)) start (pageOf system year) (now (out .exit)) r × (r ≤ start + 8192) ⌝ }
 {
     let months = reckoning::year(system, year);
     let refusal = months.refusal;
     if refusal != 0 {
         return refused_line(out, start, refusal);
     }
-    let days = reckoning::days(system, year);
-    let at = year_line(out, start, system, year, months.count, days.length);
+    let days = reckoning::days(system, year).length;
+    let at = year_line(out, start, system, year, months.count, days);
     let at = solar_lines(out, at, system, year);
     let at = lunar_lines(out, at, months);
-    names_line(out, at, reckoning::sheet(system, year))
+    names_line(out, at, reckoning::sheet(system, year), days)
 }

@@ -42,8 +42,8 @@ loop-again c =
     let month-put = c .before .before in
     let turn = month-put .before .before .before in
     let months = turn .before .before .before .args .months in
-    let written = turn .loop .inv .3 in
-    (search needs, omega arith, omega arith, wrote-one-more (monthAt months) (turn .loop .i) written (month-put .month-at .ensures .0))
+    let line = month-put .month-at .ensures .0 in
+    (search needs, omega arith, omega arith, wrote-one-more (monthAt months) (turn .loop .i) (turn .loop .inv .3) line)
 
 same-length : tie.Need-same-length Inv-loop μ-loop
 same-length c = search needs

@@ -36,8 +36,9 @@ loop-again c =
     let qi-put = c .before .before in
     let turn = qi-put .before .before .before .before in
     let args = turn .before .before .args in
+    let text = qiAt (args .system) (args .year) in
     let line = wrote-as (ap (qiLine (turn .loop .i)) (qi-put .before .qi .ensures)) (qi-put .qi-line .ensures .0) in
-    (omega arith, omega arith, wrote-one-more (qiAt (args .system) (args .year)) (turn .loop .i) (turn .loop .inv .2) line)
+    (omega arith, omega arith, wrote-one-more text (turn .loop .i) (turn .loop .inv .2) line)
 
 same-length : tie.Need-same-length Inv-loop μ-loop
 same-length c = search needs

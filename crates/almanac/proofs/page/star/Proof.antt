@@ -17,7 +17,9 @@ same-length : tie.Need-same-length
 same-length c = search needs
 
 returns-2 : tie.Need-returns-2
-returns-2 c = (wrote-star _ (c .before .before .before .before .before .if1 .left) (c .before .before .word .ensures .0), omega arith)
+returns-2 c =
+    let star-put = c .before .before in
+    (wrote-star _ (star-put .before .before .before .if1 .left) (star-put .word .ensures .0), omega arith)
 
 pub star-spec : {M : Type 1} → statement M
 star-spec = tie.close (tie.spec returns slice-aggregate-word word-requires same-length returns-2)
