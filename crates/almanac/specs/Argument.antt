@@ -3,16 +3,16 @@ use Prim.Native.Nat.{ℕ, min}
 use mathlib.Core.Bool.{Bool, true, false, cond, _&&_}
 use mathlib.Core.List.{List, [], _∷_}
 use lib.Dec.{leb}
-use Rattle.lines.specs.Decimal.{numberOf}
+use Rattle.lines.specs.Decimal.{digit, numberOf}
 use Rattle.almanac.specs.declared.arguments.Argument.{Argument}
 
--- The largest number told; larger ones are taken as it.
+-- The largest number told, of 32 bits; larger ones are taken as it.
 abbrev pub most : ℕ
 most = 4_294_967_295
 
--- '0' is 48 and '9' is 57.
+-- The byte of one of the ten digits.
 abbrev pub isDigit : ℕ → Bool
-isDigit byte = leb 48 byte && leb byte 57
+isDigit byte = leb (digit 0) byte && leb byte (digit 9)
 
 unfoldable pub allDigits : List ℕ → Bool
 allDigits [] = true

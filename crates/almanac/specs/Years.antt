@@ -4,7 +4,7 @@ use mathlib.Core.Bool.{cond, _&&_}
 use mathlib.Core.List.{List}
 use lib.Dec.{leb}
 use lib.ListN.{length, getD}
-use Rattle.lines.specs.Decimal.{numberOf}
+use Rattle.lines.specs.Decimal.{digit, numberOf}
 use Rattle.almanac.specs.Argument.{most, isNumber}
 use Rattle.almanac.specs.declared.years.Years.{Years}
 
@@ -14,7 +14,7 @@ longest = 1_000_000_000_000_000_000
 
 -- The digit of a number at a place counted from 0 for the last digit; noughts stand before the first.
 abbrev pub digitAt : List ℕ → ℕ → ℕ
-digitAt text place = cond (leb (length text) place) 0 (getD text (length text - 1 - place) 0 - 48)
+digitAt text place = cond (leb (length text) place) 0 (getD text (length text - 1 - place) 0 - digit 0)
 
 -- From the first year to the last, both counted; none where the last is before the first.
 abbrev pub countOf : List ℕ → List ℕ → ℕ

@@ -1,4 +1,4 @@
-// The program's arguments: its verb, and decimal numbers.
+// The program's arguments: its verb, a decimal number, the years of a range.
 ghost use mathlib.Core.Path.{_≡_};
 ghost use Prim.Native.Nat.{_+_, _*_, _-_, _≤_, min};
 ghost use Rattle.almanac.specs.Argument.{most, isDigit, argumentOf};

@@ -2,6 +2,7 @@
 ghost use mathlib.Core.Path.{_≡_};
 ghost use Prim.Native.Nat.{_+_, _≤_, min};
 ghost use lib.ListN.{length};
+ghost use Rattle.almanac.specs.Argument.{most};
 use crate::page::page;
 use libc::STDOUT_FILENO;
 
@@ -11,11 +12,11 @@ struct Place {
     is_open: bool,
 }
 
-// The year after. Past the largest number it stays, which is refused as the years past it would be.
+// The year after, as a number is told: past the largest it stays, which is refused as the years past it would be.
 fn next_year(year: u32) -> u32
-    ensures { λ r. ⌜ r ≡ min 4294967295 (year + 1) ⌝ }
+    ensures { λ r. ⌜ r ≡ min most (year + 1) ⌝ }
 {
-    if year < 4294967295 { year + 1 } else { year }
+    if year < u32::MAX { year + 1 } else { year }
 }
 
 // A place with room for a page, 8192 bytes: the one given, or the buffer's start once all before it was written out.

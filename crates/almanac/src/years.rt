@@ -2,7 +2,6 @@
 ghost use mathlib.Core.Path.{_≡_};
 ghost use mathlib.Core.Bool.{true};
 ghost use Prim.Native.Nat.{_+_, _≤_, min, max};
-ghost use lib.ListN.{length};
 ghost use Rattle.almanac.specs.Argument.{allDigits};
 ghost use Rattle.almanac.specs.Years.{longest, digitAt, countOf, yearsOf};
 use crate::arguments;

@@ -6,7 +6,6 @@ use mathlib.Core.List.{List}
 use native.Mathlib.Omega.{arith}
 use Rattle.calendar.specs.declared.data.Constants.{Constants}
 use Rattle.calendar.specs.Inside.{Inside}
-use Rattle.calendar.specs.Systems.{yearsElapsed}
 use Rattle.calendar.specs.Name.{nameOf}
 use Rattle.calendar.specs.Month.{monthHead, InMonth, monthLength, dayOfMonth}
 use Rattle.calendar.specs.Year.{Span, yearLength, dayOfOrdinal, MonthNamed}

@@ -1,6 +1,6 @@
 -- The day that a citation names, by the reckoning: paper 01, "The words of demand 3". A citation, the customer's own term,
 -- is a record that names a day. A register day is a count day less the system's anchor.
-use Prim.Native.Nat.{ℕ, _+_, _-_}
+use Prim.Native.Nat.{ℕ, _+_}
 use mathlib.Core.Path.{_≡_}
 use mathlib.Core.List.{List}
 use Rattle.calendar.specs.declared.data.Constants.{Constants}

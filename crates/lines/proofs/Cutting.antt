@@ -1,18 +1,18 @@
 -- An input cut into records, one after another.
-use Prim.Native.Nat.{ℕ, zero, suc, _+_, _-_, _≤_, _<_}
+use Prim.Native.Nat.{ℕ, zero, suc, _-_, _≤_, _<_}
 use mathlib.Core.Path.{_≡_, refl, ap, sym, _∙_}
 use mathlib.Core.Bool.{true, false, cond}
 use mathlib.Core.List.{List, [], _∷_, _++_, append-assoc}
 use native.Mathlib.Omega.{arith}
 use lib.ListN.{length, take, drop, length-drop}
 use lib.Seq.{length-take-le}
-use borrow.Author.Tests.{le-leb, lt-leb, eq-eqb, ne-eqb}
+use borrow.Author.Tests.{le-leb, lt-leb, ne-eqb}
 use Rattle.calendar.proofs.Cases.{by-bool}
 use Rattle.reckoning.proofs.Refusals.{inside-of}
 use Rattle.citation.specs.Record.{lengthField}
 use Rattle.lines.specs.Line.{lineOf, refusedLine}
 use Rattle.lines.specs.Program.{framed, Framing, recordThen, framingWithin, framing, linesOf, endingOf, outputOf}
-use Rattle.lines.specs.Program.{Portion, noPortion, portionThen, portion, portionOf}
+use Rattle.lines.specs.Program.{noPortion, portionThen, portion, portionOf}
 use Rattle.lines.proofs.Framing.{framed-is}
 
 -- A record at the front has four bytes or more.

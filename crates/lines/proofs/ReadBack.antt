@@ -1,11 +1,11 @@
 -- A number that is written reads back as itself.
-use Prim.Native.Nat.{ℕ, _+_, _*_, _-_, _/_, _%_, _≤_, _<_}
+use Prim.Native.Nat.{ℕ, _+_, _*_, _-_, _/_, _%_, _<_}
 use mathlib.Core.Path.{_≡_, refl, ap, sym, _∙_}
 use mathlib.Core.List.{List, [], _∷_, _++_}
 use native.Mathlib.Omega.{arith}
 use borrow.Author.Tests.{lt-ltb, le-ltb}
 use Rattle.calendar.proofs.Rising.{by-order}
-use Rattle.lines.specs.Decimal.{digit, twoDigits, below100, decimal, withDigits, numberOf}
+use Rattle.lines.specs.Decimal.{digit, twoDigits, decimal, withDigits, numberOf}
 use Rattle.lines.proofs.Decimals.{two-at-most, four-at-most, six-at-most, eight-at-most, ten-at-most}
 
 digits-then : (n : ℕ) (text more : List ℕ) → withDigits n (text ++ more) ≡ withDigits (withDigits n text) more

@@ -1,7 +1,7 @@
 -- The line of a record, by the reckoning: the date and the day that an accepted citation names, or its refusal.
 use Prim.Native.Nat.{ℕ, _+_, _*_, _/_, _%_, _<_}
 use mathlib.Core.Path.{_≡_, refl, subst, ap, ap₂, sym, _∙_}
-use mathlib.Core.List.{List, [], _∷_, _++_}
+use mathlib.Core.List.{List}
 use native.Mathlib.Omega.{arith}
 use Rattle.reckoning.specs.Rows.{FirstOf}
 use Rattle.citation.specs.Record.{systemOf, recordOf}
@@ -11,7 +11,7 @@ use Rattle.citation.specs.Store.{judgeOf}
 use Rattle.citation.proofs.Rows.{first-unique}
 use Rattle.citation.proofs.OneDay.{names-unique}
 use Rattle.citation.proofs.OneDate.{record-unique}
-use Rattle.citation.proofs.Judged.{Judged, Kept}
+use Rattle.citation.proofs.Judged.{Judged}
 use Rattle.citation.proofs.Refusals.{judged}
 use Rattle.citation.proofs.Canonical.{passed}
 use Rattle.lines.specs.Line.{dateText, storedDate, dayLine, refusedLine, lineOf}

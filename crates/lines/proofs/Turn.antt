@@ -1,20 +1,17 @@
 -- One turn of the loop over a buffer.
 use Prim.Native.Nat.{ℕ, _+_, _-_, _≤_}
-use mathlib.Core.Path.{_≡_, refl, ap, ap₂, sym, _∙_}
-use mathlib.Core.Bool.{Bool, true, false, cond, _&&_}
+use mathlib.Core.Path.{_≡_, ap, ap₂, sym, _∙_}
 use mathlib.Core.List.{List, [], _++_, append-assoc, append-nil}
 use native.Mathlib.Omega.{arith}
-use lib.Dec.{leb}
 use lib.ListN.{length, take, drop, length-drop, take-append-drop}
 use lib.Seq.{drop-drop, length-take-le}
 use borrow.Author.Tests.{le-leb}
 use Rattle.calendar.proofs.Cases.{by-bool}
 use Rattle.calendar.proofs.Rising.{by-order}
 use Rattle.citation.specs.Record.{lengthField}
-use Rattle.lines.specs.declared.convert.Progress.{Progress}
 use Rattle.lines.specs.Line.{lineOf}
 use Rattle.lines.specs.Wrote.{Wrote}
-use Rattle.lines.specs.Program.{framed, framing, Portion, noPortion, portionThen, portionOf, nextOf, progressOf, linesInto}
+use Rattle.lines.specs.Program.{framed, framing, noPortion, portionThen, portionOf, nextOf, progressOf, linesInto}
 use Rattle.lines.proofs.Writing.{wrote-front, wrote-back}
 use Rattle.lines.proofs.Framing.{Next}
 use Rattle.lines.proofs.Cutting.{some-bytes, portion-full, portion-none, portion-more}

@@ -1,6 +1,6 @@
 -- What the answers for a solstice, a qi and a day sheet hold, in the paper's words. A register day is a count day less
 -- the anchor.
-use Prim.Native.Nat.{ℕ, _+_, _*_, _-_, _≤_, _<_}
+use Prim.Native.Nat.{ℕ, _+_, _*_, _≤_, _<_}
 use mathlib.Core.Path.{_≡_}
 use lib.ListN.{length, getD}
 use Rattle.calendar.specs.declared.data.Constants.{Constants}
