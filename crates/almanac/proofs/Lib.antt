@@ -8,4 +8,6 @@ pub mod Places
 -- The years of a range, by what its ends are.
 pub mod Ranges
 -- The text of a page from its pieces.
-pub mod Pages
+pub mod PageText
+-- A buffer filled with pages, one after another.
+pub mod Filling

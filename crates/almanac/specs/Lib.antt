@@ -5,3 +5,5 @@ pub mod Argument
 pub mod Years
 -- The page of a year.
 pub mod Page
+-- The pages of several years.
+pub mod Pages

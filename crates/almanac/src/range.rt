@@ -3,13 +3,15 @@ ghost use mathlib.Core.Path.{_≡_};
 ghost use Prim.Native.Nat.{_+_, _≤_, min};
 ghost use lib.ListN.{length};
 ghost use Rattle.almanac.specs.Argument.{most};
+ghost use Rattle.almanac.specs.Pages.{FilledWith};
 use crate::page::page;
 use libc::STDOUT_FILENO;
 
-// Where the next page goes, and whether the output still takes what is written.
-struct Place {
-    at: usize,
-    is_open: bool,
+// Pages put into a buffer: how many, the year after them, and where the last one ends.
+struct Filled {
+    pages: u64,
+    year: u32,
+    end: usize,
 }
 
 // The year after, as a number is told: past the largest it stays, which is refused as the years past it would be.
@@ -19,42 +21,47 @@ fn next_year(year: u32) -> u32
     if year < u32::MAX { year + 1 } else { year }
 }
 
-// A place with room for a page, 8192 bytes: the one given, or the buffer's start once all before it was written out.
-fn next_place(out: &[u8], at: usize) -> Place
-    requires { ⌜ (at ≤ length (now out)) × (8192 ≤ length (now out)) ⌝ }
-    ensures { λ r. ⌜ r .at + 8192 ≤ length (now (out .entry)) ⌝ }
+// Puts the pages of up to `count` years from the first on into a buffer, while it has room for one more, 8192 bytes.
+fn fill(out: &mut [u8], system: u32, first: u32, count: u64) -> Filled
+    ensures { λ r. ⌜ FilledWith system first count (now (out .entry)) (now (out .exit)) r ⌝ }
 {
-    if 8192 <= out.len() - at {
-        return Place {
-            at: at,
-            is_open: true,
-        };
+    let mut pages = 0;
+    let mut year = first;
+    let mut end = 0;
+    while pages < count {
+        if out.len() - end < 8192 {
+            return Filled {
+                pages: pages,
+                year: year,
+                end: end,
+            };
+        }
+        end = page(out, end, system, year);
+        year = next_year(year);
+        pages += 1;
     }
-    let is_written = io::write_all(STDOUT_FILENO, &out[..at]);
-    Place {
-        at: 0,
-        is_open: is_written,
+    Filled {
+        pages: pages,
+        year: year,
+        end: end,
     }
 }
 
-// A write that fails ends it.
+// Buffer after buffer. A write that fails ends it.
 fn write_pages(out: &mut [u8], system: u32, first: u32, count: u64)
     requires { ⌜ 8192 ≤ length (now out) ⌝ }
 {
-    let mut at = 0;
     let mut year = first;
     let mut left = count;
     while 0 < left {
-        let place = next_place(out, at);
-        if !place.is_open {
+        let filled = fill(out, system, year, left);
+        let end = filled.end;
+        if !io::write_all(STDOUT_FILENO, &out[..end]) {
             return;
         }
-        let start = place.at;
-        at = page(out, start, system, year);
-        year = next_year(year);
-        left -= 1;
+        year = filled.year;
+        left -= filled.pages;
     }
-    io::write_all(STDOUT_FILENO, &out[..at]);
 }
 
 // The pages of so many years from the first on.

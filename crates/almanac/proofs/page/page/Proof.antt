@@ -5,7 +5,7 @@ use Rattle.reckoning.specs.YearValue.{Tiled}
 use Rattle.lines.proofs.Writing.{wrote-as, wrote-then}
 use Rattle.almanac.specs.Page.{yearLines}
 use Rattle.almanac.proofs.Months.{accepted-tiled}
-use Rattle.almanac.proofs.Pages.{days-most, page-refused, page-answered}
+use Rattle.almanac.proofs.PageText.{days-most, page-refused, page-answered}
 use borrow.Author.Needs.{needs}
 use Rattle.almanac.proofs.page.page.Statement.{statement}
 use Rattle.almanac.proofs.page.page.Tie as tie

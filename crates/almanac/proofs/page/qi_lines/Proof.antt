@@ -4,7 +4,7 @@ use native.Mathlib.Omega.{arith}
 use Rattle.lines.specs.Wrote.{Wrote}
 use Rattle.lines.proofs.Writing.{wrote-as}
 use Rattle.almanac.specs.Page.{textsUpTo, qiLine, qiAt}
-use Rattle.almanac.proofs.Pages.{wrote-no-texts, wrote-one-more}
+use Rattle.almanac.proofs.PageText.{wrote-no-texts, wrote-one-more}
 use borrow.Author.Needs.{needs}
 use Rattle.almanac.proofs.page.qi_lines.Statement.{statement}
 use Rattle.almanac.proofs.page.qi_lines.Tie as tie

@@ -5,7 +5,7 @@ use Rattle.lines.specs.Line.{field}
 use Rattle.lines.specs.Wrote.{Wrote}
 use Rattle.lines.proofs.Writing.{wrote-as}
 use Rattle.almanac.specs.Page.{textsUpTo, nameAt}
-use Rattle.almanac.proofs.Pages.{wrote-no-texts, wrote-one-more}
+use Rattle.almanac.proofs.PageText.{wrote-no-texts, wrote-one-more}
 use borrow.Author.Needs.{needs}
 use Rattle.almanac.proofs.page.sheet_names.Statement.{statement}
 use Rattle.almanac.proofs.page.sheet_names.Tie as tie

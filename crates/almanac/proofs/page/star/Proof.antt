@@ -1,5 +1,5 @@
 use native.Mathlib.Omega.{arith}
-use Rattle.almanac.proofs.Pages.{wrote-no-star, wrote-star}
+use Rattle.almanac.proofs.PageText.{wrote-no-star, wrote-star}
 use borrow.Author.Needs.{needs}
 use Rattle.almanac.proofs.page.star.Statement.{statement}
 use Rattle.almanac.proofs.page.star.Tie as tie
