@@ -1,0 +1,9 @@
+-- Laws that serve several functions.
+-- Text written piece by piece.
+pub mod Writing
+-- Text put into an output where there is room for it.
+pub mod Putting
+-- Decimal numbers by their size.
+pub mod Decimals
+-- A number that is written reads back as itself.
+pub mod ReadBack

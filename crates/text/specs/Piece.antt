@@ -1,0 +1,34 @@
+-- The pieces that lines are made of, as bytes: 32 is ' ', 42 '*', 10 ends a line.
+use Prim.Native.Nat.{ℕ}
+use mathlib.Core.Bool.{cond}
+use mathlib.Core.List.{List, [], _∷_, _++_}
+use lib.Dec.{eqb}
+use Rattle.text.specs.Decimal.{decimal}
+
+-- A space and a number.
+abbrev pub field : ℕ → List ℕ
+field n = 32 ∷ decimal n
+
+-- A field for each number, in order.
+unfoldable pub fields : List ℕ → List ℕ
+fields [] = []
+fields (n ∷ numbers) = field n ++ fields numbers
+
+abbrev pub newline : List ℕ
+newline = 10 ∷ []
+
+-- A line: a word, and a field for each number.
+abbrev pub line : List ℕ → List ℕ → List ℕ
+line word numbers = word ++ (fields numbers ++ newline)
+
+-- The letter of a system, G or J; '?' of a number that is no system's.
+abbrev pub letterOf : ℕ → ℕ
+letterOf system = cond (eqb system 1) 71 (cond (eqb system 2) 74 63)
+
+-- '*' after a leap month's number.
+abbrev pub star : ℕ → List ℕ
+star leap = cond (eqb leap 0) [] (42 ∷ [])
+
+-- "refused" and the number.
+abbrev pub refusedLine : ℕ → List ℕ
+refusedLine number = line (114 ∷ 101 ∷ 102 ∷ 117 ∷ 115 ∷ 101 ∷ 100 ∷ []) (number ∷ [])

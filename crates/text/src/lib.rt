@@ -1,0 +1,96 @@
+// Text for any program: words, decimal numbers, a system's letter and a leap month's star, put into an output at a place.
+// Each function that puts text gives the place after it; where too few bytes are left at the place, the output and the
+// place stay as they are.
+ghost use mathlib.Core.Path.{_≡_};
+ghost use Prim.Native.Nat.{_+_, _*_, _^_, _<_};
+ghost use lib.Dec.{ltb};
+ghost use lib.ListN.{length};
+ghost use Rattle.text.specs.Piece.{field, fields, line, letterOf, star};
+ghost use Rattle.text.specs.Put.{Put};
+
+mod put;
+
+// The byte of a system's letter.
+pub fn letter(system: u32) -> u8
+    ensures { λ r. ⌜ r ≡ letterOf system ⌝ }
+{
+    if system == 1 {
+        return b'G';
+    }
+    if system == 2 {
+        return b'J';
+    }
+    b'?'
+}
+
+// Whether an output of that length has fewer than `room` bytes left at a place.
+fn is_short(length: usize, at: usize, room: usize) -> bool
+    ensures { λ r. ⌜ r ≡ ltb length (at + room) ⌝ }
+{
+    if length < room {
+        return true;
+    }
+    if length - room < at {
+        return true;
+    }
+    false
+}
+
+// A word, as its bytes.
+pub fn word(out: &mut [u8], at: usize, bytes: &[u8]) -> usize
+    ensures { λ r. ⌜
+        Put (now (out .entry)) at (length (now (bytes .entry))) (now (bytes .entry)) (now (out .exit)) r
+        ⌝ }
+{
+    if is_short(out.len(), at, bytes.len()) {
+        return at;
+    }
+    put::word(out, at, bytes)
+}
+
+// A space and a number, where there is room for ten digits.
+pub fn field(out: &mut [u8], at: usize, n: u32) -> usize
+    ensures { λ r. ⌜ Put (now (out .entry)) at 11 (field n) (now (out .exit)) r ⌝ }
+{
+    if is_short(out.len(), at, 11) {
+        return at;
+    }
+    put::field(out, at, n)
+}
+
+// A star, directly after a leap month's number; nothing where the mark is 0.
+pub fn star(out: &mut [u8], at: usize, leap: u8) -> usize
+    ensures { λ r. ⌜ Put (now (out .entry)) at 1 (star leap) (now (out .exit)) r ⌝ }
+{
+    if leap == 0 {
+        return at;
+    }
+    if is_short(out.len(), at, 1) {
+        return at;
+    }
+    put::byte(out, at, b'*')
+}
+
+// Whether there is no room for a line of a word and so many numbers.
+fn lacks_line(length: usize, at: usize, word: usize, count: usize) -> bool
+    requires { ⌜ (length < 2 ^ 63) × (word < 2 ^ 63) ⌝ }
+    ensures { λ r. ⌜ r ≡ ltb length (at + (word + 11 * count + 1)) ⌝ }
+{
+    if length / 11 < count {
+        return true;
+    }
+    is_short(length, at, word + 11 * count + 1)
+}
+
+// A line of a word and numbers, a space before each number, where there is room for ten digits in each.
+pub fn line(out: &mut [u8], at: usize, bytes: &[u8], numbers: &[u32]) -> usize
+    ensures { λ r. ⌜
+        Put (now (out .entry)) at (length (now (bytes .entry)) + 11 * length (now (numbers .entry)) + 1)
+        (line (now (bytes .entry)) (now (numbers .entry))) (now (out .exit)) r
+        ⌝ }
+{
+    if lacks_line(out.len(), at, bytes.len(), numbers.len()) {
+        return at;
+    }
+    put::line(out, at, bytes, numbers)
+}
