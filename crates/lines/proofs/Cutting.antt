@@ -10,7 +10,8 @@ use borrow.Author.Tests.{le-leb, lt-leb, ne-eqb}
 use Rattle.calendar.proofs.Cases.{by-bool}
 use Rattle.reckoning.proofs.Refusals.{inside-of}
 use Rattle.citation.specs.Record.{lengthField}
-use Rattle.lines.specs.Line.{lineOf, refusedLine}
+use Rattle.text.specs.Piece.{refusedLine}
+use Rattle.lines.specs.Line.{lineOf}
 use Rattle.lines.specs.Program.{framed, Framing, recordThen, framingWithin, framing, linesOf, endingOf, outputOf}
 use Rattle.lines.specs.Program.{noPortion, portionThen, portion, portionOf}
 use Rattle.lines.proofs.Framing.{framed-is}

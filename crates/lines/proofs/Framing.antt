@@ -1,6 +1,6 @@
 -- Records framed in a buffer.
 use Prim.Native.Nat.{ℕ, _+_, _*_, _-_, _≤_, _<_}
-use mathlib.Core.Path.{_≡_, refl, ap, ap₂, _∙_}
+use mathlib.Core.Path.{_≡_, refl, ap, ap₂, sym, _∙_}
 use mathlib.Core.Bool.{Bool, true, false, cond, not, _&&_}
 use mathlib.Core.List.{List, _++_}
 use native.Mathlib.Omega.{arith}
@@ -11,14 +11,15 @@ use borrow.Author.Tests.{le-leb, lt-leb, leb-true, not-true}
 use Rattle.calendar.proofs.Cases.{both}
 use Rattle.reckoning.specs.Refusal.{outside}
 use Rattle.reckoning.proofs.Refusals.{inside-of}
+use Rattle.little_endian.specs.Number.{le16}
 use Rattle.citation.specs.Record.{lengthField}
 use Rattle.lines.specs.Program.{framed, nextOf}
 
 -- The length field at a place of a buffer.
-pub field-at : (s : List ℕ) (at : ℕ) → lengthField (drop at s) ≡ getD s at 0 + 256 * getD s (at + 1) 0
-field-at s at =
+pub field-at : {n : ℕ} (s : List ℕ) (at : ℕ) → n ≡ le16 (getD s at 0) (getD s (at + 1) 0) → n ≡ lengthField (drop at s)
+field-at s at e =
     let here : at + 0 ≡ at = omega arith in
-    ap₂ (λ a b. a + 256 * b) (getD-drop at s 0 0 ∙ ap (λ i. getD s i 0) here) (getD-drop at s 1 0)
+    e ∙ sym (ap₂ le16 (getD-drop at s 0 0 ∙ ap (λ i. getD s i 0) here) (getD-drop at s 1 0))
 
 -- What `next` finds.
 module _ (s : List ℕ) (at size : ℕ) where

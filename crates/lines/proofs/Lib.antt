@@ -1,13 +1,5 @@
 -- Laws that serve several functions.
--- Text written piece by piece.
-pub mod Writing
--- Text put into an output where there is room for it.
-pub mod Putting
--- Decimal numbers by their size.
-pub mod Decimals
--- A number that is written reads back as itself.
-pub mod ReadBack
--- The text of a line from its pieces.
+-- The line of a record by its judgement, and its length.
 pub mod Lines
 -- Records framed in a buffer.
 pub mod Framing

@@ -14,16 +14,18 @@ use Rattle.citation.proofs.OneDate.{record-unique}
 use Rattle.citation.proofs.Judged.{Judged}
 use Rattle.citation.proofs.Refusals.{judged}
 use Rattle.citation.proofs.Canonical.{passed}
-use Rattle.lines.specs.Line.{dateText, storedDate, dayLine, refusedLine, lineOf}
+use Rattle.text.specs.Piece.{refusedLine}
+use Rattle.lines.specs.Line.{dayLine, storedLine, lineOf}
 use Rattle.lines.proofs.Lines.{line-refused, line-accepted}
 
 -- A stored record is told as its date.
-told-date : (system year month leap day : ℕ) → storedDate (recordOf system year month leap day) ≡ dateText system year month leap day
-told-date system year month leap day =
-    let whole : year % 256 + 256 * (year / 256) ≡ year = omega arith in ap (λ y. dateText system y month leap day) whole
+told-date : (system year month leap day r : ℕ) → storedLine (recordOf system year month leap day) r ≡ dayLine system year month leap day r
+unfolding storedLine
+told-date system year month leap day r =
+    let whole : year % 256 + 256 * (year / 256) ≡ year = omega arith in ap (λ y. dayLine system y month leap day r) whole
 
 pub line-of-day : (s : List ℕ) → Accepted s → (r year month leap day : ℕ) → Names s r → OnDate (systemOf s) r year month leap day
-    → lineOf s ≡ dayLine (dateText (systemOf s) year month leap day) r
+    → lineOf s ≡ dayLine (systemOf s) year month leap day r
 line-of-day s a r year month leap day names date =
     let j = judgeOf s in
     let κ = passed s a .kept in
@@ -33,7 +35,8 @@ line-of-day s a r year month leap day names date =
     κ .stored ∙ record-unique (systemOf s) r _ _ _ _ _ _ _ _ kept date
     in
     sym (line-accepted s j refl (passed s a .no-refusal))
-    ∙ ap₂ dayLine (ap storedDate stored ∙ told-date (systemOf s) year month leap day) same
+    ∙ ap₂ storedLine stored same
+    ∙ told-date (systemOf s) year month leap day r
 
 pub line-of-refusal : (s : List ℕ) (number : ℕ) → 0 < number → FirstOf (citationRows s) number → lineOf s ≡ refusedLine number
 line-of-refusal s number some first = go (judged s)

@@ -10,9 +10,9 @@ use Rattle.calendar.proofs.Cases.{by-bool}
 use Rattle.calendar.proofs.Rising.{by-order}
 use Rattle.citation.specs.Record.{lengthField}
 use Rattle.lines.specs.Line.{lineOf}
-use Rattle.lines.specs.Wrote.{Wrote}
+use Rattle.text.specs.Wrote.{Wrote}
 use Rattle.lines.specs.Program.{framed, framing, noPortion, portionThen, portionOf, nextOf, progressOf, linesInto}
-use Rattle.lines.proofs.Writing.{wrote-front, wrote-back}
+use Rattle.text.proofs.Writing.{wrote-front, wrote-back}
 use Rattle.lines.proofs.Framing.{Next}
 use Rattle.lines.proofs.Cutting.{some-bytes, portion-full, portion-none, portion-more}
 

@@ -1,11 +1,5 @@
--- The program's text, as lists of bytes.
--- Decimal numbers.
-pub mod Decimal
+-- What the program writes.
 -- The line of a record.
 pub mod Line
--- Text written into an output.
-pub mod Wrote
--- Text put into an output where there is room for it.
-pub mod Put
--- What the program writes.
+-- Records one after another, and their lines.
 pub mod Program

@@ -8,7 +8,8 @@ use lib.ListN.{length, take, drop}
 use Rattle.reckoning.specs.Refusal.{outside}
 use Rattle.citation.specs.Record.{lengthField}
 use Rattle.lines.specs.declared.convert.Progress.{Progress}
-use Rattle.lines.specs.Line.{lineOf, refusedLine}
+use Rattle.text.specs.Piece.{refusedLine}
+use Rattle.lines.specs.Line.{lineOf}
 
 -- A length field is there, and no record has that length.
 abbrev pub misframed : List ℕ → Bool

@@ -5,7 +5,7 @@ ghost use lib.ListN.{length, drop};
 ghost use Rattle.citation.specs.Record.{lengthField};
 ghost use Rattle.lines.specs.Program.{misframed, nextOf, Converted};
 use crate::line::put_line;
-use crate::put::wide;
+use little_endian::le16;
 use reckoning::refusal::outside;
 
 // How far a buffer was read, and how much was written.
@@ -19,7 +19,7 @@ fn length_at(s: &[u8], at: usize) -> u32
     requires { ⌜ at + 1 < length (now s) ⌝ }
     ensures { λ r. ⌜ r ≡ lengthField (drop at (now (s .entry))) ⌝ }
 {
-    wide(s[at]) + 256 * wide(s[at + 1])
+    le16(s[at], s[at + 1])
 }
 
 // The input starts with a length field that no record has.

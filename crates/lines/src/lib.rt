@@ -1,6 +1,3 @@
-// The program's text: decimal numbers, the line of a record, and the records of a buffer; letters, words and
-// numbers for any program.
+// What the program writes: the line of a record, the lines of the records in a buffer, and the line that ends it.
 pub mod convert;
 mod line;
-mod put;
-pub mod text;

@@ -1,17 +1,15 @@
 -- Text put into an output where there is room for it.
-use Prim.Native.Nat.{ℕ, _+_, _≤_, _<_}
-use mathlib.Core.Path.{_≡_, refl, ap, sym, _∙_}
+use Prim.Native.Nat.{ℕ, _+_, _-_, _≤_}
+use mathlib.Core.Path.{_≡_, ap, sym, _∙_}
 use mathlib.Core.Bool.{Bool, true, false}
-use mathlib.Core.List.{List, [], _∷_, _++_}
+use mathlib.Core.List.{List, _++_}
 use native.Mathlib.Omega.{arith}
 use lib.ListN.{length, take, drop, length-append, length-drop}
 use lib.Seq.{length-take-le}
-use lib.Dec.{ltb}
-use borrow.Author.Tests.{lt-ltb, le-ltb, ltb-false, eq-eqb, ne-eqb}
-use Rattle.calendar.proofs.Rising.{by-order}
-use Rattle.text.specs.Piece.{star}
+use lib.Dec.{leb, ltb}
+use borrow.Author.Tests.{leb-true, le-ltb, ltb-false}
 use Rattle.text.specs.Wrote.{Wrote}
-use Rattle.text.proofs.Writing.{wrote-none}
+use Rattle.text.proofs.Writing.{wrote-then}
 use Rattle.text.specs.Put.{putInto, putEnd, Put}
 
 -- Where a test for too little room failed, there is room.
@@ -56,15 +54,28 @@ put-wrote {before} {text} {after} {at} {room} {end} p h =
       );
     }
 
--- A month with no star, and one with it.
-pub put-no-star : (b : List ℕ) (at leap : ℕ) → leap ≡ 0 → Put b at 1 (star leap) b at
-unfolding putInto putEnd
-put-no-star b at leap z =
-    simp (eq-eqb leap 0 z)
-    (by-order (length b) (at + 1)
-    (λ short. put-none {text = []} (sym (lt-ltb (length b) (at + 1) short)) refl)
-    (λ room. put-text (sym (le-ltb (length b) (at + 1) room)) refl (wrote-none b at (omega arith), omega arith)))
+-- Text put piece by piece is written, where the room is enough for the room of each piece.
+pub record Puts (before : List ℕ) (at rooms : ℕ) (text after : List ℕ) (end : ℕ) : Type 0 where
+  pub wrote : at + rooms ≤ length before → Wrote before at text after end × (end ≤ at + rooms)
 
-pub put-star : {b a : List ℕ} {at e : ℕ} {short : Bool} (leap : ℕ) → short ≡ ltb (length b) (at + 1) → (leap ≡ 0 → ⊥)
-    → short ≡ false → Wrote b at (42 ∷ []) a e × (e ≤ at + 1) → Put b at 1 (star leap) a e
-put-star leap test z e w = simp (ne-eqb leap 0 z) (put-text test e w)
+pub put-last : {b x a : List ℕ} {at room rooms e : ℕ} → Put b at room x a e → leb room rooms ≡ true → Puts b at rooms x a e
+put-last {room = room} {rooms = rooms} q l =
+    let enough = leb-true room rooms l in
+    record { wrote = λ h. (put-wrote q (omega arith), omega (arith, q .near)) }
+
+pub put-then : {b x m y a : List ℕ} {at room p rooms e : ℕ} → Put b at room x m p → leb room rooms ≡ true
+    → Puts m p (rooms - room) y a e
+    → Puts b at rooms (x ++ y) a e
+put-then {room = room} {rooms = rooms} q l others =
+    let enough = leb-true room rooms l in
+    record {
+      wrote =
+          λ h.
+          let w = put-wrote q (omega arith) in
+          let v = others .wrote (omega (arith, w .same-length, q .near)) in
+          (wrote-then w (v .0), omega (arith, q .near, v .1));
+    }
+
+pub all-put : {b x a : List ℕ} {at e rooms : ℕ} → Puts b at rooms x a e → at + rooms ≤ length b
+    → Wrote b at x a e × (e ≤ at + rooms)
+all-put pieces h = pieces .wrote h

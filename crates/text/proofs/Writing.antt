@@ -9,9 +9,10 @@ use lib.Dec.{eqb}
 use lib.ListN.{length, take, drop, getD, set, length-append, length-set, take-append-drop}
 use lib.Seq.{set-split, set-set, take-at, drop-at, drop-drop, take-suc, take-all, take-length, length-take-le}
 use lib.Seq.{paste, paste-suc, length-paste}
+use borrow.Author.Tests.{eq-eqb, ne-eqb}
 use Rattle.calendar.proofs.Rising.{by-order}
 use Rattle.text.specs.Decimal.{decimal}
-use Rattle.text.specs.Piece.{field, fields}
+use Rattle.text.specs.Piece.{field, letterOf, year, star, month, fields}
 use Rattle.text.specs.Wrote.{Wrote}
 
 -- One byte.
@@ -95,7 +96,26 @@ wrote-none b at h =
 
 -- A space and a number.
 pub wrote-field : {b m a : List ℕ} {at p e : ℕ} (n : ℕ) → Wrote b at (32 ∷ []) m p → Wrote m p (decimal n) a e → Wrote b at (field n) a e
+unfolding field
 wrote-field n w v = wrote-then w v
+
+-- A year after the byte of its system's letter.
+pub wrote-year : {b m a : List ℕ} {at p e byte : ℕ} (system n : ℕ) → byte ≡ letterOf system → Wrote b at (byte ∷ []) m p
+    → Wrote m p (field n) a e → Wrote b at (year system n) a e
+unfolding year
+wrote-year system n is w v = wrote-then (wrote-as (λ i. is i ∷ []) w) v
+
+-- A month with no star, and one with it.
+pub wrote-no-star : {b : List ℕ} {at : ℕ} (leap : ℕ) → leap ≡ 0 → at ≤ length b → Wrote b at (star leap) b at
+wrote-no-star {b} {at} leap z h = simp (eq-eqb leap 0 z) (wrote-none b at h)
+
+pub wrote-star : {b a : List ℕ} {at e : ℕ} (leap : ℕ) → (leap ≡ 0 → ⊥) → Wrote b at (42 ∷ []) a e → Wrote b at (star leap) a e
+wrote-star leap z w = simp (ne-eqb leap 0 z) w
+
+pub wrote-month : {b m a : List ℕ} {at p e : ℕ} (number leap : ℕ) → Wrote b at (field number) m p → Wrote m p (star leap) a e
+    → Wrote b at (month number leap) a e
+unfolding month
+wrote-month number leap w v = wrote-then w v
 
 -- A field more.
 fields-after : (numbers : List ℕ) (n : ℕ) → fields (numbers ++ n ∷ []) ≡ fields numbers ++ field n

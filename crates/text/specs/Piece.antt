@@ -6,7 +6,7 @@ use lib.Dec.{eqb}
 use Rattle.text.specs.Decimal.{decimal}
 
 -- A space and a number.
-abbrev pub field : ℕ → List ℕ
+unfoldable pub field : ℕ → List ℕ
 field n = 32 ∷ decimal n
 
 -- A field for each number, in order.
@@ -25,9 +25,17 @@ line word numbers = word ++ (fields numbers ++ newline)
 abbrev pub letterOf : ℕ → ℕ
 letterOf system = cond (eqb system 1) 71 (cond (eqb system 2) 74 63)
 
+-- A year of a system: its letter and the year.
+unfoldable pub year : ℕ → ℕ → List ℕ
+year system n = (letterOf system ∷ []) ++ field n
+
 -- '*' after a leap month's number.
 abbrev pub star : ℕ → List ℕ
 star leap = cond (eqb leap 0) [] (42 ∷ [])
+
+-- A month: a space, its number, and a star directly after it if leap.
+unfoldable pub month : ℕ → ℕ → List ℕ
+month number leap = field number ++ star leap
 
 -- "refused" and the number.
 abbrev pub refusedLine : ℕ → List ℕ

@@ -5,23 +5,10 @@ ghost use mathlib.Core.Path.{_≡_};
 ghost use Prim.Native.Nat.{_+_, _*_, _^_, _<_};
 ghost use lib.Dec.{ltb};
 ghost use lib.ListN.{length};
-ghost use Rattle.text.specs.Piece.{field, fields, line, letterOf, star};
+ghost use Rattle.text.specs.Piece.{field, year, month, line, refusedLine};
 ghost use Rattle.text.specs.Put.{Put};
 
 mod put;
-
-// The byte of a system's letter.
-pub fn letter(system: u32) -> u8
-    ensures { λ r. ⌜ r ≡ letterOf system ⌝ }
-{
-    if system == 1 {
-        return b'G';
-    }
-    if system == 2 {
-        return b'J';
-    }
-    b'?'
-}
 
 // Whether an output of that length has fewer than `room` bytes left at a place.
 fn is_short(length: usize, at: usize, room: usize) -> bool
@@ -58,17 +45,24 @@ pub fn field(out: &mut [u8], at: usize, n: u32) -> usize
     put::field(out, at, n)
 }
 
-// A star, directly after a leap month's number; nothing where the mark is 0.
-pub fn star(out: &mut [u8], at: usize, leap: u8) -> usize
-    ensures { λ r. ⌜ Put (now (out .entry)) at 1 (star leap) (now (out .exit)) r ⌝ }
+// A system's letter, a space and a year. A number that is no system's has the letter '?'.
+pub fn year(out: &mut [u8], at: usize, system: u32, n: u32) -> usize
+    ensures { λ r. ⌜ Put (now (out .entry)) at 12 (year system n) (now (out .exit)) r ⌝ }
 {
-    if leap == 0 {
+    if is_short(out.len(), at, 12) {
         return at;
     }
-    if is_short(out.len(), at, 1) {
+    put::year(out, at, system, n)
+}
+
+// A space and a month's number, with a star directly after it where the leap mark is not 0.
+pub fn month(out: &mut [u8], at: usize, number: u32, leap: u8) -> usize
+    ensures { λ r. ⌜ Put (now (out .entry)) at 12 (month number leap) (now (out .exit)) r ⌝ }
+{
+    if is_short(out.len(), at, 12) {
         return at;
     }
-    put::byte(out, at, b'*')
+    put::month(out, at, number, leap)
 }
 
 // Whether there is no room for a line of a word and so many numbers.
@@ -93,4 +87,12 @@ pub fn line(out: &mut [u8], at: usize, bytes: &[u8], numbers: &[u32]) -> usize
         return at;
     }
     put::line(out, at, bytes, numbers)
+}
+
+// The line of a refusal.
+pub fn refused(out: &mut [u8], at: usize, refusal: u8) -> usize
+    ensures { λ r. ⌜ Put (now (out .entry)) at 19 (refusedLine refusal) (now (out .exit)) r ⌝ }
+{
+    let numbers = [refusal as u32];
+    line(out, at, b"refused", &numbers)
 }

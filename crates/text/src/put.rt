@@ -6,10 +6,10 @@ ghost use mathlib.Core.List.{[], _∷_};
 ghost use lib.Dec.{eqb, ltb};
 ghost use lib.ListN.{length};
 ghost use Rattle.text.specs.Decimal.{twoDigits, fourDigits, decimal};
-ghost use Rattle.text.specs.Piece.{field, fields, line};
+ghost use Rattle.text.specs.Piece.{field, letterOf, year, star, month, fields, line};
 ghost use Rattle.text.specs.Wrote.{Wrote};
 
-pub(crate) fn byte(out: &mut [u8], at: usize, b: u8) -> usize
+fn byte(out: &mut [u8], at: usize, b: u8) -> usize
     requires { ⌜ at + 1 ≤ length (now out) ⌝ }
     ensures { λ r. ⌜ Wrote (now (out .entry)) at (b ∷ []) (now (out .exit)) r × (r ≤ at + 1) ⌝ }
 {
@@ -115,8 +115,49 @@ pub(crate) fn field(out: &mut [u8], at: usize, n: u32) -> usize
     number(out, next, n)
 }
 
+// The byte of a system's letter.
+fn letter_of(system: u32) -> u8
+    ensures { λ r. ⌜ r ≡ letterOf system ⌝ }
+{
+    if system == 1 {
+        return b'G';
+    }
+    if system == 2 {
+        return b'J';
+    }
+    b'?'
+}
+
+// A system's letter and a year.
+pub(crate) fn year(out: &mut [u8], at: usize, system: u32, n: u32) -> usize
+    requires { ⌜ at + 12 ≤ length (now out) ⌝ }
+    ensures { λ r. ⌜ Wrote (now (out .entry)) at (year system n) (now (out .exit)) r × (r ≤ at + 12) ⌝ }
+{
+    let next = byte(out, at, letter_of(system));
+    field(out, next, n)
+}
+
+fn star(out: &mut [u8], at: usize, leap: u8) -> usize
+    requires { ⌜ at + 1 ≤ length (now out) ⌝ }
+    ensures { λ r. ⌜ Wrote (now (out .entry)) at (star leap) (now (out .exit)) r × (r ≤ at + 1) ⌝ }
+{
+    if leap == 0 {
+        return at;
+    }
+    byte(out, at, b'*')
+}
+
+// A month's number, and a star if the month is leap.
+pub(crate) fn month(out: &mut [u8], at: usize, number: u32, leap: u8) -> usize
+    requires { ⌜ at + 12 ≤ length (now out) ⌝ }
+    ensures { λ r. ⌜ Wrote (now (out .entry)) at (month number leap) (now (out .exit)) r × (r ≤ at + 12) ⌝ }
+{
+    let next = field(out, at, number);
+    star(out, next, leap)
+}
+
 // A field for each number.
-pub(crate) fn fields(out: &mut [u8], start: usize, numbers: &[u32]) -> usize
+fn fields(out: &mut [u8], start: usize, numbers: &[u32]) -> usize
     requires { ⌜ start + 11 * length (now numbers) ≤ length (now out) ⌝ }
     ensures { λ r. ⌜
         Wrote (now (out .entry)) start (fields (now (numbers .entry))) (now (out .exit)) r

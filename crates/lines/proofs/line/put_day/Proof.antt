@@ -1,57 +1,70 @@
-use mathlib.Core.Path.{ap, _∙_}
 use native.Mathlib.Omega.{arith}
-use mathlib.Core.List.{_++_}
-use Rattle.lines.specs.Line.{storedDate, field, newline}
-use Rattle.lines.proofs.Writing.{wrote-as, wrote-then}
+use Rattle.lines.proofs.Lines.{told-stored}
 use borrow.Author.Needs.{needs}
 use Rattle.lines.proofs.line.put_day.Statement.{statement}
 use Rattle.lines.proofs.line.put_day.Tie as tie
 
-put-date-requires : tie.Need-put-date-requires
-put-date-requires c κs = search needs
+array-read-le16 : tie.Need-array-read-le16
+array-read-le16 c = search needs
 
-field-requires : tie.Need-field-requires
-field-requires c κs = search needs
+array-read-le16-2 : tie.Need-array-read-le16-2
+array-read-le16-2 c = search needs
+
+le16-requires : tie.Need-le16-requires
+le16-requires c κs = search needs
 
 day-name-requires : tie.Need-day-name-requires
 day-name-requires c κs = search needs
 
-wide-requires : tie.Need-wide-requires
-wide-requires c κs = search needs
+cast-name : tie.Need-cast-name
+cast-name c = search needs
 
-small-field-requires : tie.Need-small-field-requires
-small-field-requires c κs = (omega arith, omega (arith, c .wide .ensures .0, ap (λ n. n .0) (c .before .day-name .ensures)))
+array-read-put-words : tie.Need-array-read-put-words
+array-read-put-words c = search needs
 
-byte-requires : tie.Need-byte-requires
-byte-requires c κs = search needs
+cast-put-words : tie.Need-cast-put-words
+cast-put-words c = search needs
+
+array-read-put-words-2 : tie.Need-array-read-put-words-2
+array-read-put-words-2 c = search needs
+
+cast-put-words-2 : tie.Need-cast-put-words-2
+cast-put-words-2 c = search needs
+
+array-read-put-words-3 : tie.Need-array-read-put-words-3
+array-read-put-words-3 c = search needs
+
+array-read-put-words-4 : tie.Need-array-read-put-words-4
+array-read-put-words-4 c = search needs
+
+cast-put-words-3 : tie.Need-cast-put-words-3
+cast-put-words-3 c = search needs
+
+put-words-requires : tie.Need-put-words-requires
+put-words-requires c κs = search needs
 
 same-length : tie.Need-same-length
 same-length c = search needs
 
 returns : tie.Need-returns
-returns c =
-    let end-put = c .before .before in
-    let name-put = end-put .before .before .before .before in
-    let day-put = name-put .before .before .before .before .before .before in
-    let date-put = day-put .before .before .before .before in
-    let args = date-put .before .before .before .args in
-    let name-is = name-put .before .wide .ensures .0 ∙ ap (λ n. n .0) (name-put .before .before .day-name .ensures) in (
-      wrote-as (ap (λ n. storedDate (args .stored) ++ (field (args .day .0) ++ (field n ++ newline))) name-is)
-          (wrote-then (date-put .put-date .ensures .0)
-          (wrote-then (day-put .field .ensures .0)
-          (wrote-then (name-put .small-field .ensures .0) (end-put .byte .ensures .0)))),
-      omega arith,
-    )
+returns c = (search told-stored, omega arith)
 
 pub put-day-spec : {M : Type 1} → statement M
 put-day-spec =
     tie.close
     (tie.spec
-    put-date-requires
-    field-requires
+    array-read-le16
+    array-read-le16-2
+    le16-requires
     day-name-requires
-    wide-requires
-    small-field-requires
-    byte-requires
+    cast-name
+    array-read-put-words
+    cast-put-words
+    array-read-put-words-2
+    cast-put-words-2
+    array-read-put-words-3
+    array-read-put-words-4
+    cast-put-words-3
+    put-words-requires
     same-length
     returns)

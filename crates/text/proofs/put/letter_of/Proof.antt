@@ -1,6 +1,6 @@
 use borrow.Author.Tests.{eq-eqb, ne-eqb}
-use Rattle.text.proofs.letter.Statement.{statement}
-use Rattle.text.proofs.letter.Tie as tie
+use Rattle.text.proofs.put.letter_of.Statement.{statement}
+use Rattle.text.proofs.put.letter_of.Tie as tie
 
 returns : tie.Need-returns
 returns c = simp (eq-eqb _ _ (c .if1 .taken))
@@ -11,5 +11,5 @@ returns-2 c = simp (ne-eqb _ _ (c .before .if1 .left), eq-eqb _ _ (c .if2 .taken
 returns-3 : tie.Need-returns-3
 returns-3 c = simp (ne-eqb _ _ (c .before .if1 .left), ne-eqb _ _ (c .if2 .left))
 
-pub letter-spec : {M : Type 1} → statement M
-letter-spec = tie.close (tie.spec returns returns-2 returns-3)
+pub letter-of-spec : {M : Type 1} → statement M
+letter-of-spec = tie.close (tie.spec returns returns-2 returns-3)
