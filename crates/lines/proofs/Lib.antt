@@ -7,6 +7,8 @@ pub mod Framing
 pub mod Cutting
 -- One turn of the loop over a buffer.
 pub mod Turn
+-- An output that takes all the records of a buffer.
+pub mod AllRecords
 -- Buffer after buffer, what the program writes on the whole input.
 pub mod WholeProgram
 -- The line of a record, by the reckoning.

@@ -1,20 +1,26 @@
 -- The line of a record by its judgement, and its length.
-use Prim.Native.Nat.{ℕ}
+use Prim.Native.Nat.{ℕ, _≤_}
 use mathlib.Core.Path.{_≡_, subst}
 use mathlib.Core.Bool.{cond}
-use mathlib.Core.List.{List}
+use mathlib.Core.List.{List, [], _∷_, _++_}
+use native.Mathlib.Omega.{arith}
 use lib.Dec.{eqb}
+use lib.ListN.{length, length-append}
 use borrow.Author.Tests.{eq-eqb, ne-eqb}
 use Rattle.citation.specs.declared.judge.Judgement.{Judgement}
 use Rattle.citation.specs.Store.{judgeOf}
+use Rattle.calendar.proofs.Cases.{by-bool}
 use Rattle.calendar.specs.declared.data.DayName.{DayName}
 use Rattle.calendar.specs.Name.{nameOf}
 use Rattle.citation.specs.Record.{systemOf, yearField, monthField, leapField, dayField}
-use Rattle.text.specs.Piece.{refusedLine}
+use Rattle.text.specs.Piece.{year, month, line, refusedLine}
 use Rattle.text.specs.Wrote.{Wrote}
+use Rattle.text.proofs.Lengths.{year-length, month-length, line-length}
 use Rattle.text.proofs.Writing.{wrote-as}
-use Rattle.text.proofs.Putting.{Puts}
+use Rattle.text.specs.Put.{Put}
+use Rattle.text.proofs.Putting.{Puts, put-nothing}
 use Rattle.lines.specs.Line.{words, storedLine, lineOf}
+use Rattle.lines.specs.Program.{endingOf}
 
 -- The words of a stored record and its day make its line.
 pub told-stored : {b a : List ℕ} {at e year : ℕ} {name : DayName} (stored : List ℕ) (r : ℕ)
@@ -48,3 +54,36 @@ pub wrote-accepted : {b a : List ℕ} {at end : ℕ} {j : Judgement} (s : List �
     → Wrote b at (storedLine (j .stored) (j .day .0)) a end
     → Wrote b at (lineOf s) a end
 wrote-accepted {j = j} s e h w = wrote-as (line-accepted s j e h) w
+
+-- No line is longer than 64 bytes.
+stored-length : (stored : List ℕ) (r : ℕ) → length (storedLine stored r) ≤ 64
+unfolding storedLine
+stored-length stored r =
+    let first = year (systemOf stored) (yearField stored) in
+    let second = month (monthField stored) (leapField stored) in
+    let last = dayField stored ∷ r ∷ nameOf r ∷ [] in
+    omega (
+      arith,
+      length-append first (second ++ line [] last),
+      length-append second (line [] last),
+      year-length (systemOf stored) (yearField stored),
+      month-length (monthField stored) (leapField stored),
+      line-length [] last,
+    )
+
+pub line-short : (s : List ℕ) → length (lineOf s) ≤ 64
+unfolding lineOf
+line-short s =
+    let j = judgeOf s in
+    by-bool (eqb (j .refusal) 0)
+    (λ e. simp e (stored-length (j .stored) (j .day .0)))
+    (λ e. simp e (omega (arith, line-length (114 ∷ 101 ∷ 102 ∷ 117 ∷ 115 ∷ 101 ∷ 100 ∷ []) (j .refusal ∷ []))))
+
+-- The line for bytes that are no record, by whether there are any.
+module _ (rest : List ℕ) where
+  pub put-no-ending : (b : List ℕ) (at : ℕ) → length rest ≡ 0 → Put b at 19 (endingOf rest) b at
+  put-no-ending b at none = simp (eq-eqb (length rest) 0 none) (put-nothing b at 19)
+
+  pub put-ending : {b a : List ℕ} {at end : ℕ} → (length rest ≡ 0 → ⊥) → Put b at 19 (refusedLine 1) a end
+      → Put b at 19 (endingOf rest) a end
+  put-ending some p = simp (ne-eqb (length rest) 0 some) p

@@ -2,8 +2,9 @@
 ghost use mathlib.Core.Path.{_≡_};
 ghost use Prim.Native.Nat.{_+_, _≤_, _<_};
 ghost use lib.ListN.{length, drop};
+ghost use Rattle.text.specs.Put.{Put};
 ghost use Rattle.citation.specs.Record.{lengthField};
-ghost use Rattle.lines.specs.Program.{misframed, nextOf, Converted};
+ghost use Rattle.lines.specs.Program.{misframed, nextOf, Converted, endingOf};
 use crate::line::put_line;
 use little_endian::le16;
 use reckoning::refusal::outside;
@@ -70,4 +71,14 @@ pub fn convert(input: &[u8], out: &mut [u8]) -> Progress
         read: read,
         written: written,
     }
+}
+
+// The line for bytes that are no record, where there are any.
+pub fn ending(out: &mut [u8], at: usize, rest: &[u8]) -> usize
+    ensures { λ r. ⌜ Put (now (out .entry)) at 19 (endingOf (now (rest .entry))) (now (out .exit)) r ⌝ }
+{
+    if rest.len() == 0 {
+        return at;
+    }
+    text::refused(out, at, 1)
 }

@@ -7,3 +7,5 @@ pub mod Putting
 pub mod Decimals
 -- A number that is written reads back as itself.
 pub mod ReadBack
+-- How long the pieces of a line are at most.
+pub mod Lengths

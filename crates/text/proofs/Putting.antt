@@ -1,15 +1,16 @@
 -- Text put into an output where there is room for it.
 use Prim.Native.Nat.{ℕ, _+_, _-_, _≤_}
-use mathlib.Core.Path.{_≡_, ap, sym, _∙_}
+use mathlib.Core.Path.{_≡_, refl, ap, sym, _∙_}
 use mathlib.Core.Bool.{Bool, true, false}
-use mathlib.Core.List.{List, _++_}
+use mathlib.Core.List.{List, [], _++_}
 use native.Mathlib.Omega.{arith}
 use lib.ListN.{length, take, drop, length-append, length-drop}
 use lib.Seq.{length-take-le}
 use lib.Dec.{leb, ltb}
-use borrow.Author.Tests.{leb-true, le-ltb, ltb-false}
+use borrow.Author.Tests.{leb-true, lt-ltb, le-ltb, ltb-false}
+use Rattle.calendar.proofs.Rising.{by-order}
 use Rattle.text.specs.Wrote.{Wrote}
-use Rattle.text.proofs.Writing.{wrote-then}
+use Rattle.text.proofs.Writing.{wrote-none, wrote-then}
 use Rattle.text.specs.Put.{putInto, putEnd, Put}
 
 -- Where a test for too little room failed, there is room.
@@ -30,6 +31,13 @@ module _ {before : List ℕ} {at room : ℕ} {text : List ℕ} {short : Bool} (t
   put-text e w =
       let some : ltb (length before) (at + room) ≡ false = sym test ∙ e in
       record { is = simp some (w .0 .is); ends = simp some (w .0 .ends); near = w .1 }
+
+-- No text changes nothing, room or not.
+pub put-nothing : (b : List ℕ) (at room : ℕ) → Put b at room [] b at
+put-nothing b at room =
+    by-order (length b) (at + room)
+    (λ short. put-none (sym (lt-ltb (length b) (at + room) short)) refl)
+    (λ enough. put-text (sym (le-ltb (length b) (at + room) enough)) refl (wrote-none b at (omega arith), omega arith))
 
 -- With room, the text was written.
 pub put-wrote : {before text after : List ℕ} {at room end : ℕ} → Put before at room text after end → at + room ≤ length before

@@ -1,2 +1,0 @@
--- Bytes moved to the front of their buffer.
-pub mod Moving

@@ -1,0 +1,7 @@
+-- What the run does between one call of the system and the next.
+-- One turn.
+pub mod Turn
+-- What the buffers have room for.
+pub mod Buffers
+-- Turn after turn.
+pub mod Run

@@ -1,0 +1,156 @@
+// The run of the program chiselbrow. What it answers is in `lines`, and what it does between two calls of the system in
+// `turn`; here bytes are moved between that and the system.
+ghost use mathlib.Core.Path.{_≡_};
+ghost use Prim.Native.Nat.{_≤_};
+ghost use lib.ListN.{length};
+ghost use Rattle.process.specs.Exit.{Written, Ended};
+ghost use Rattle.chiselbrow_run.specs.Buffers.{Buffers};
+use libc::STDERR_FILENO;
+use process::exit;
+use process::options;
+use process::options::Wish;
+use process::streams;
+use turn::answer;
+
+mod turn;
+
+// How a step ended: whether a call of the system failed, and if not, whether the run goes on, how many bytes are left
+// and how many were answered.
+struct Step {
+    failed: bool,
+    more: bool,
+    left: usize,
+    read: usize,
+}
+
+fn failed_step(what: &[u8]) -> Step
+    ensures { λ r. ⌜ r .left ≡ 0 ⌝ }
+{
+    exit::fail(what);
+    Step {
+        failed: true,
+        more: false,
+        left: 0,
+        read: 0,
+    }
+}
+
+// Answers the records among the first `filled` bytes, and writes their lines.
+fn write_answer(input: &mut [u8], filled: usize, ended: bool, out: &mut [u8]) -> Step
+    requires { ⌜ (filled ≤ length (now input)) × Buffers (now input) (now out) ⌝ }
+    ensures { λ r. ⌜ r .left ≤ length (now (input .exit)) ⌝ }
+{
+    let t = answer(&mut input[..filled], ended, out);
+    let written = t.written;
+    if !streams::write(&out[..written]) {
+        return failed_step(b"chiselbrow: standard output");
+    }
+    Step {
+        failed: false,
+        more: t.more,
+        left: t.left,
+        read: t.read,
+    }
+}
+
+// Reads once after the bytes that were kept, and answers.
+fn read_and_answer(input: &mut [u8], kept: usize, out: &mut [u8]) -> Step
+    requires { ⌜ (kept ≤ length (now input)) × Buffers (now input) (now out) ⌝ }
+    ensures { λ r. ⌜ r .left ≤ length (now (input .exit)) ⌝ }
+{
+    let got = streams::read(&mut input[kept..]);
+    if got.failed {
+        return failed_step(b"chiselbrow: standard input");
+    }
+    write_answer(input, kept + got.count, got.count == 0, out)
+}
+
+// The status of a run that stopped with so many bytes left, from the given one on.
+fn stopped(left: usize, offset: u64) -> u32
+    ensures { λ r. ⌜ Written r ⌝ }
+{
+    if left == 0 {
+        return exit::ANSWERED;
+    }
+    io::write_all(
+        STDERR_FILENO,
+        b"chiselbrow: standard input: no record at byte ",
+    );
+    io::print_decimal(STDERR_FILENO, offset);
+    io::write_all(STDERR_FILENO, b"\n");
+    exit::FAILED
+}
+
+// Step after step. A proved loop has to end, so it counts its turns.
+fn convert_input(input: &mut [u8], out: &mut [u8]) -> u32
+    requires { ⌜ Buffers (now input) (now out) ⌝ }
+    ensures { λ r. ⌜ Written r ⌝ }
+{
+    let mut kept = 0;
+    let mut offset = 0;
+    let mut turns = u64::MAX;
+    while 0 < turns {
+        let s = read_and_answer(input, kept, out);
+        if s.failed {
+            return exit::FAILED;
+        }
+        offset = std::num::wrapping_add_u64(offset, s.read as u64);
+        if !s.more {
+            return stopped(s.left, offset);
+        }
+        kept = s.left;
+        turns -= 1;
+    }
+    exit::FAILED
+}
+
+fn convert() -> u32
+    ensures { λ r. ⌜ Written r ⌝ }
+{
+    let mut input = [0u8; 32768];
+    let mut out = [0u8; 524352];
+    convert_input(&mut input, &mut out)
+}
+
+fn help() -> u32
+    ensures { λ r. ⌜ Written r ⌝ }
+{
+    let text = b"chiselbrow [--help | --version] < records\n\
+        \n\
+        Reads citation records from standard input, one directly after another, and\n\
+        writes one line for each: system, year, month with * if leap, day, register\n\
+        day and sixty-day name; or `refused` and a number. A year begins with month\n\
+        11, late in the common year before it. The manual page chiselbrow(1) tells\n\
+        the records, the refusals and the exit status.\n";
+    exit::reply(text, b"chiselbrow: standard output")
+}
+
+// What the first argument asks for.
+fn wish() -> Wish {
+    let mut text = io::buffer();
+    let n = os::arg(1, &mut text);
+    options::read(&text[..n])
+}
+
+// Does what the arguments ask, and gives the exit status.
+#[no_mangle]
+pub extern "C" fn chiselbrow_run(version: &[u8]) -> u32
+    ensures { λ r. ⌜ Ended r ⌝ }
+{
+    let usage = b"usage: chiselbrow [--help | --version] < records\n";
+    if os::arg_count() < 2 {
+        return convert();
+    }
+    if 2 < os::arg_count() {
+        return exit::misuse(usage);
+    }
+    match wish() {
+        Wish::Help => help(),
+        Wish::Version => exit::reply_version(
+            b"chiselbrow",
+            version,
+            b"chiselbrow: standard output",
+        ),
+        Wish::Other => exit::misuse(usage),
+    }
+}
