@@ -28,13 +28,13 @@
  *             return 1;
  *         }
  *         if (chiselbrow_read_date(stored, sizeof stored, &date))
- *             printf("register day %lu, day %u of month %u\n",
- *                    (unsigned long)chiselbrow_day(answer),
- *                    date.day, date.month);
+ *             printf("register day %lu, day %u of %smonth %u\n",
+ *                    (unsigned long)chiselbrow_day(answer), date.day,
+ *                    date.leap ? "leap " : "", date.month);
  *         return 0;
  *     }
  *
- * It prints "register day 2120808, day 1 of month 5".
+ * It prints "register day 2120808, day 1 of leap month 5".
  *
  * Link with -lchiselbrow; nothing else is needed. The library comes as an
  * archive and as a shared library. The shared one exports chiselbrow_store;
