@@ -36,9 +36,10 @@
  *
  * It prints "register day 2120808, day 1 of leap month 5".
  *
- * Link with -lchiselbrow; nothing else is needed. The library comes as an
- * archive and as a shared library. The shared one exports chiselbrow_store;
- * all else here is defined in this header.
+ * Link with -lchiselbrow; nothing else is needed. The library is an archive
+ * and a shared library. The linker takes the shared one, which the loader has
+ * to find when the host is run; -Wl,-Bstatic -lchiselbrow -Wl,-Bdynamic takes
+ * the archive. Both export chiselbrow_store, and all else is defined here.
  *
  *
  * WORDS
@@ -148,8 +149,8 @@
 #include <stddef.h>
 #include <stdint.h>
 
-/* The version of this header and its library. The first number is also that
- * of the shared library's soname: it rises when a host has to be built anew. */
+/* The version of this header and its library. The first number, which is also
+ * that of the soname, rises when hosts have to be built anew. */
 #define CHISELBROW_VERSION "1.0.0"
 
 #ifdef __cplusplus
@@ -257,8 +258,8 @@ static inline void chiselbrow_put_(uint8_t *to, int bytes, int64_t number)
 }
 
 /* Not for hosts: the five bytes by which all kinds begin. */
-static inline void chiselbrow_begin_(uint8_t *cited, int64_t size, int64_t kind,
-                                     int64_t system)
+static inline void chiselbrow_begin_(uint8_t *cited, int64_t size,
+                                     int64_t kind, int64_t system)
 {
     chiselbrow_put_(cited, 2, size);
     chiselbrow_put_(cited + 2, 2, kind);
@@ -267,10 +268,9 @@ static inline void chiselbrow_begin_(uint8_t *cited, int64_t size, int64_t kind,
 
 /* By date: kind 1, the form that is stored. leap is 1 for a leap month and 0
  * for any other. */
-static inline size_t chiselbrow_cite_date(uint8_t cited[CHISELBROW_STORED_SIZE],
-                                          int64_t system, int64_t year,
-                                          int64_t month, int64_t leap,
-                                          int64_t day)
+static inline size_t
+chiselbrow_cite_date(uint8_t cited[CHISELBROW_STORED_SIZE], int64_t system,
+                     int64_t year, int64_t month, int64_t leap, int64_t day)
 {
     chiselbrow_begin_(cited, CHISELBROW_STORED_SIZE, CHISELBROW_KIND_STORED,
                       system);
@@ -282,10 +282,9 @@ static inline size_t chiselbrow_cite_date(uint8_t cited[CHISELBROW_STORED_SIZE],
 }
 
 /* By sixty-day name within a month: kind 2. */
-static inline size_t chiselbrow_cite_name(uint8_t cited[CHISELBROW_NAME_SIZE],
-                                          int64_t system, int64_t year,
-                                          int64_t month, int64_t leap,
-                                          int64_t name)
+static inline size_t
+chiselbrow_cite_name(uint8_t cited[CHISELBROW_NAME_SIZE], int64_t system,
+                     int64_t year, int64_t month, int64_t leap, int64_t name)
 {
     chiselbrow_begin_(cited, CHISELBROW_NAME_SIZE, CHISELBROW_KIND_NAME,
                       system);
@@ -298,8 +297,8 @@ static inline size_t chiselbrow_cite_name(uint8_t cited[CHISELBROW_NAME_SIZE],
 
 /* By ordinal in the year: kind 3. */
 static inline size_t
-chiselbrow_cite_ordinal(uint8_t cited[CHISELBROW_ORDINAL_SIZE],
-                        int64_t system, int64_t year, int64_t ordinal)
+chiselbrow_cite_ordinal(uint8_t cited[CHISELBROW_ORDINAL_SIZE], int64_t system,
+                        int64_t year, int64_t ordinal)
 {
     chiselbrow_begin_(cited, CHISELBROW_ORDINAL_SIZE, CHISELBROW_KIND_ORDINAL,
                       system);
@@ -309,8 +308,9 @@ chiselbrow_cite_ordinal(uint8_t cited[CHISELBROW_ORDINAL_SIZE],
 }
 
 /* By register day: kind 4. */
-static inline size_t chiselbrow_cite_day(uint8_t cited[CHISELBROW_DAY_SIZE],
-                                         int64_t system, int64_t register_day)
+static inline size_t
+chiselbrow_cite_day(uint8_t cited[CHISELBROW_DAY_SIZE], int64_t system,
+                    int64_t register_day)
 {
     chiselbrow_begin_(cited, CHISELBROW_DAY_SIZE, CHISELBROW_KIND_DAY, system);
     chiselbrow_put_(cited + 5, 4, register_day);
@@ -331,9 +331,11 @@ struct chiselbrow_date {
  * numbers within the bounds beside the fields above. Returns 0 and leaves the
  * date alone if they have not. All that chiselbrow_store writes has the form.
  * Bytes from elsewhere can have it and name no day, as day 30 of a month of
- * 29; chiselbrow_store refuses those. record may be null if record_len is 0. */
-static inline int chiselbrow_read_date(const uint8_t *record, size_t record_len,
-                                       struct chiselbrow_date *date)
+ * 29; chiselbrow_store refuses those. The pointer may be null if the length is
+ * 0. */
+static inline int
+chiselbrow_read_date(const uint8_t *record, size_t record_len,
+                     struct chiselbrow_date *date)
 {
     struct chiselbrow_date read;
 

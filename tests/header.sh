@@ -76,7 +76,7 @@ for text in "$header" "$page"; do
 done
 
 # The page has the functions of the header.
-functions=$(sed -n 's/^\(static inline.* \)\?\([a-z_0-9]* \)\?\(chiselbrow_[a-z_]*[a-z]\)(.*/\3/p' "$header")
+functions=$(sed -n 's/^\([a-z].* \)\?\(chiselbrow_[a-z_]*[a-z]\)(.*/\2/p' "$header")
 expect 'functions of the page' "$functions" \
     "$(sed -n '/^\.SH NAME/,/^\.SH SYNOPSIS/p' "$page" | grep -o 'chiselbrow_[a-z_]*')"
 echo "header: what it and the manual page say by example is so: $printed"

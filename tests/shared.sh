@@ -12,7 +12,7 @@ expect() {
     exit 1
 }
 
-declared=$(sed -n '/inline/!s/^[a-z].*\b\(chiselbrow_[a-z_]*\)(.*/\1/p' include/chiselbrow.h)
+declared=$(sed -n '/inline/!s/^[a-z].* \(chiselbrow_[a-z_]*\)(.*/\1/p' include/chiselbrow.h)
 expect exports "${declared:?}" "$(nm -D --defined-only --format=just-symbols "$library")"
 expect 'what others must define' '' "$(nm -D --undefined-only "$library")"
 major=$(sed -n 's/^#define CHISELBROW_VERSION "\([0-9]*\)\..*/\1/p' include/chiselbrow.h)
