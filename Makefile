@@ -7,12 +7,20 @@ CC = gcc
 CFLAGS = -std=c11 -O2 -Wall -Wextra -Wpedantic
 RUSTC = rustc
 
+# The version stands in the header alone.
+version := $(shell sed -n 's/.*define CHISELBROW_VERSION "\(.*\)"/\1/p' include/chiselbrow.h)
+# The names under which the library's manual page is to be found.
+functions := $(shell sed -n '/SH NAME/,/SH SYNOPSIS/p' man/chiselbrow.3 | grep -o 'chiselbrow_[a-z_]*')
+
 library = build/libchiselbrow.a
+shared = build/libchiselbrow.so.$(version)
+soname = libchiselbrow.so.$(firstword $(subst ., ,$(version)))
 programs = build/chiselbrow build/almanac
-test_tools = build/independent build/store_check build/null_check build/incident build/feed
+test_tools = build/independent build/store_check build/null_check build/builders build/incident build/feed
 bench_tools = build/bench build/c_program
-tests = tests/cases.sh tests/every_day.sh tests/damaged.sh build/null_check build/incident tests/header.sh \
-        tests/host.sh tests/every_year.sh tests/program.sh tests/pipes.sh tests/install.sh tests/mixups.sh
+tests = tests/cases.sh tests/every_day.sh tests/damaged.sh build/null_check build/builders build/incident \
+        tests/header.sh tests/host.sh tests/shared.sh tests/shared.py tests/every_year.sh tests/program.sh \
+        tests/pipes.sh tests/install.sh tests/mixups.sh
 crates := crates.txt $(shell find crates -name must-fail -prune -o -type f -print)
 
 # Two runs of rt at a time would share target/.
@@ -22,8 +30,8 @@ MAKEFLAGS += --no-print-directory
 
 .PHONY: all test-tools test bench run install clean
 
-# The library, the programs and the example host.
-all: $(library) $(programs) build/store
+# The library as an archive and shared, the programs and the example host.
+all: $(library) $(shared) $(programs) build/store
 
 # What only the tests need.
 test-tools: $(test_tools)
@@ -42,15 +50,20 @@ run:
 	@$(MAKE) build/chiselbrow < /dev/null >&2
 	@build/chiselbrow
 
-# Header, library, programs, manual pages, and a file for pkg-config.
+# Header, libraries, programs, manual pages, and a file for pkg-config.
 install: all
 	install -d $(addprefix $(root)/,bin include lib/pkgconfig share/man/man1 share/man/man3)
 	install -m 644 include/chiselbrow.h $(root)/include
-	install -m 644 $(library) $(root)/lib
-	install -m 755 $(programs) $(root)/bin
+	install -m 644 $(library) $(shared) $(root)/lib
+	ln -sf $(notdir $(shared)) $(root)/lib/$(soname)
+	ln -sf $(soname) $(root)/lib/libchiselbrow.so
+	install -m 755 $(programs) build/store $(root)/bin
 	install -m 644 man/chiselbrow.1 man/almanac.1 $(root)/share/man/man1
 	install -m 644 man/chiselbrow.3 $(root)/share/man/man3
-	sed 's|@PREFIX@|$(PREFIX)|' chiselbrow.pc.in > $(root)/lib/pkgconfig/chiselbrow.pc
+	for function in $(functions); do \
+	    echo '.so man3/chiselbrow.3' > $(root)/share/man/man3/$$function.3 || exit 1; \
+	done
+	sed 's|@PREFIX@|$(PREFIX)|; s|@VERSION@|$(version)|' chiselbrow.pc.in > $(root)/lib/pkgconfig/chiselbrow.pc
 
 # Everything that was made.
 clean:
@@ -63,6 +76,13 @@ build:
 $(library): $(crates) | build
 	rt staticlib citation < /dev/null
 	cp target/staticlib/libcitation.a $@
+
+# It needs no other library, and exports what the list says. The links are those that install makes.
+$(shared): $(library) chiselbrow.map include/chiselbrow.h
+	$(CC) -shared -nostdlib -Wl,-soname,$(soname),-z,defs,--version-script=chiselbrow.map -o $@ \
+	    -Wl,--whole-archive $(library)
+	ln -sf $(notdir $@) build/$(soname)
+	ln -sf $(soname) build/libchiselbrow.so
 
 $(programs): build/%: $(crates) | build
 	rt check $* < /dev/null
@@ -77,7 +97,7 @@ build/independent: $(wildcard tests/independent/*.rs) | build
 build/null_check: tests/null.c include/chiselbrow.h $(library)
 	$(CC) $(CFLAGS) -Iinclude -o $@ $< $(library)
 
-build/store_check build/incident: build/%: tests/%.c include/chiselbrow.h $(library)
+build/store_check build/builders build/incident: build/%: tests/%.c include/chiselbrow.h $(library)
 	$(CC) $(CFLAGS) -Iinclude -o $@ $< $(library)
 
 build/feed: tests/feed.c | build

@@ -2,9 +2,11 @@
  *
  *     store 09 00 04 00 01 68 5C 20 00
  *     store 090004000168 5C2000
+ *     store --version
  *
  * It prints the day and the stored record, or the refusal. Exit status: 0
- * stored, 1 refused, 2 the arguments are no hex. */
+ * stored, 1 refused, 2 the arguments are no hex or the output cannot be
+ * written. */
 
 #include <chiselbrow.h>
 #include <inttypes.h>
@@ -57,8 +59,22 @@ static size_t read_arguments(int argc, char **argv, uint8_t *bytes)
     return (size_t)(end - bytes);
 }
 
+/* The exit status for this one, if what was printed has reached its end. */
+static int finish(int status)
+{
+    if (fflush(stdout) == 0 && !ferror(stdout))
+        return status;
+    perror("store");
+    return 2;
+}
+
 int main(int argc, char **argv)
 {
+    if (argc == 2 && strcmp(argv[1], "--version") == 0) {
+        printf("store %s\n", CHISELBROW_VERSION);
+        return finish(0);
+    }
+
     /* A byte takes two digits, so there is room for more than all of them. */
     size_t room = 1;
     for (int i = 1; i < argc; i++)
@@ -76,11 +92,11 @@ int main(int argc, char **argv)
 
     if (chiselbrow_refusal(answer) != CHISELBROW_ACCEPTED) {
         printf("refused %u\n", chiselbrow_refusal(answer));
-        return 1;
+        return finish(1);
     }
     printf("day %" PRIu32 "\nrecord", chiselbrow_day(answer));
     for (size_t i = 0; i < sizeof stored; i++)
         printf(" %02X", stored[i]);
     printf("\n");
-    return 0;
+    return finish(0);
 }

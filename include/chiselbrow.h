@@ -5,7 +5,7 @@
  * worked out before. The storing step reads any of these and writes one
  * canonical record of ten bytes. Two citations give the same ten bytes just
  * when they mean the same day in the same system, so stored records can be
- * compared and used as keys, byte for byte.
+ * compared for equality and used as keys, byte for byte.
  *
  * A call, from declaration to answer:
  *
@@ -15,22 +15,31 @@
  *     int main(void)
  *     {
  *         // Guantian, year 1094, leap month 5, the day named 37
- *         const uint8_t cited[] = {10, 0, 2, 0, 1, 0x46, 0x04, 5, 1, 37};
+ *         uint8_t cited[CHISELBROW_CITATION_ROOM];
+ *         size_t size = chiselbrow_cite_name(cited, CHISELBROW_GUANTIAN,
+ *                                            1094, 5, 1, 37);
  *         uint8_t stored[CHISELBROW_STORED_SIZE];
- *         uint64_t answer = chiselbrow_store(cited, sizeof cited,
+ *         uint64_t answer = chiselbrow_store(cited, size,
  *                                            stored, sizeof stored);
+ *         struct chiselbrow_date date;
  *
  *         if (chiselbrow_refusal(answer) != CHISELBROW_ACCEPTED) {
  *             printf("refused %u\n", chiselbrow_refusal(answer));
  *             return 1;
  *         }
- *         printf("register day %lu, the first of its month: %d\n",
- *                (unsigned long)chiselbrow_day(answer), stored[9] == 1);
+ *         if (chiselbrow_read_date(stored, sizeof stored, &date))
+ *             printf("register day %lu, day %u of %smonth %u\n",
+ *                    (unsigned long)chiselbrow_day(answer), date.day,
+ *                    date.leap ? "leap " : "", date.month);
  *         return 0;
  *     }
  *
- * It prints "register day 2120808, the first of its month: 1". Link with
- * libchiselbrow.a (-lchiselbrow); nothing else is needed.
+ * It prints "register day 2120808, day 1 of leap month 5".
+ *
+ * Link with -lchiselbrow; nothing else is needed. The library is an archive
+ * and a shared library. The linker takes the shared one, which the loader has
+ * to find when the host is run; -Wl,-Bstatic -lchiselbrow -Wl,-Bdynamic takes
+ * the archive. Both export chiselbrow_store, and all else is defined here.
  *
  *
  * WORDS
@@ -41,6 +50,10 @@
  * year          Numbered 1 to 3000 like the common years. It opens with month
  *               11, the month of the winter solstice, and so begins late in
  *               the common year before; its months run 11, 12, 1, 2 up to 10.
+ *               So Guantian year 1094, month 11, day 1 is 21 November 1093 of
+ *               the Julian calendar. Where a source begins its years with
+ *               month 1, its months 11 and 12 are cited here with the number
+ *               of the year after: month 11 of its 1093 is month 11 of 1094.
  *
  * leap          The twelve middle qi, equal steps of the sun's year counted
  *               from the winter solstice, give the months their numbers. A
@@ -91,6 +104,23 @@
  *     09 00 03 00 01 46 04 D0 00       year 1094, ordinal 208
  *     09 00 04 00 01 68 5C 20 00       register day 2120808
  *
+ * chiselbrow_cite_date, _name, _ordinal and _day build the four kinds, and
+ * chiselbrow_read_date reads a stored record.
+ *
+ *
+ * ORDER
+ *
+ * Stored records do not sort by date. A year has its low byte first, and month
+ * 11 is the first of its year. By their bytes these three stand as below, and
+ * by date the other way round:
+ *
+ *     0A 00 01 00 01 00 05 01 00 01    year 1280, month 1: day 2188610
+ *     0A 00 01 00 01 46 04 01 00 01    year 1094, month 1: day 2120660
+ *     0A 00 01 00 01 46 04 0B 00 01    year 1094, month 11: day 2120601
+ *
+ * To sort, keep the register day that chiselbrow_store returns, and sort by
+ * the system and then by that.
+ *
  *
  * REFUSALS
  *
@@ -119,6 +149,10 @@
 #include <stddef.h>
 #include <stdint.h>
 
+/* The version of this header and its library. The first number, which is also
+ * that of the soname, rises when hosts have to be built anew. */
+#define CHISELBROW_VERSION "1.0.0"
+
 #ifdef __cplusplus
 extern "C" {
 #endif
@@ -137,13 +171,14 @@ enum {
     CHISELBROW_KIND_DAY = 4
 };
 
-/* Bytes in a record of each kind. CHISELBROW_STORED_SIZE is also the room
- * that an output needs. */
+/* Bytes in a record of each kind, and the room that a citation of any kind
+ * needs. CHISELBROW_STORED_SIZE is also the room that an output needs. */
 enum {
     CHISELBROW_STORED_SIZE = 10,
     CHISELBROW_NAME_SIZE = 10,
     CHISELBROW_ORDINAL_SIZE = 9,
-    CHISELBROW_DAY_SIZE = 9
+    CHISELBROW_DAY_SIZE = 9,
+    CHISELBROW_CITATION_ROOM = 10
 };
 
 /* What chiselbrow_refusal gives: the table above. */
@@ -196,6 +231,131 @@ static inline uint32_t chiselbrow_day(uint64_t answer)
 static inline unsigned chiselbrow_refusal(uint64_t answer)
 {
     return (unsigned)(answer >> 32 & 0xFFu);
+}
+
+/* Building a citation.
+ *
+ * Each of the four functions below writes a citation of its kind to an array
+ * with room for it, and returns its size. Array and size are what
+ * chiselbrow_store takes.
+ *
+ * Any numbers may be handed in; whether they name a day is for the storing
+ * step to say. A number that is negative, or too large for its field, is
+ * written as the largest that the field holds. That is never allowed, so the
+ * citation is refused as the number itself has to be: year 70000 by 5, month
+ * 300 by 6. It does not become another date. The parameters are wide for this
+ * alone: an int, a size_t or a long that is out of range arrives as such. */
+
+/* Not for hosts: the bytes of one field. */
+static inline void chiselbrow_put_(uint8_t *to, int bytes, int64_t number)
+{
+    int64_t largest = (INT64_C(1) << 8 * bytes) - 1;
+
+    if (number < 0 || number > largest)
+        number = largest;
+    for (int i = 0; i < bytes; i++)
+        to[i] = (uint8_t)(number >> 8 * i & 0xFF);
+}
+
+/* Not for hosts: the five bytes by which all kinds begin. */
+static inline void chiselbrow_begin_(uint8_t *cited, int64_t size,
+                                     int64_t kind, int64_t system)
+{
+    chiselbrow_put_(cited, 2, size);
+    chiselbrow_put_(cited + 2, 2, kind);
+    chiselbrow_put_(cited + 4, 1, system);
+}
+
+/* By date: kind 1, the form that is stored. leap is 1 for a leap month and 0
+ * for any other. */
+static inline size_t
+chiselbrow_cite_date(uint8_t cited[CHISELBROW_STORED_SIZE], int64_t system,
+                     int64_t year, int64_t month, int64_t leap, int64_t day)
+{
+    chiselbrow_begin_(cited, CHISELBROW_STORED_SIZE, CHISELBROW_KIND_STORED,
+                      system);
+    chiselbrow_put_(cited + 5, 2, year);
+    chiselbrow_put_(cited + 7, 1, month);
+    chiselbrow_put_(cited + 8, 1, leap);
+    chiselbrow_put_(cited + 9, 1, day);
+    return CHISELBROW_STORED_SIZE;
+}
+
+/* By sixty-day name within a month: kind 2. */
+static inline size_t
+chiselbrow_cite_name(uint8_t cited[CHISELBROW_NAME_SIZE], int64_t system,
+                     int64_t year, int64_t month, int64_t leap, int64_t name)
+{
+    chiselbrow_begin_(cited, CHISELBROW_NAME_SIZE, CHISELBROW_KIND_NAME,
+                      system);
+    chiselbrow_put_(cited + 5, 2, year);
+    chiselbrow_put_(cited + 7, 1, month);
+    chiselbrow_put_(cited + 8, 1, leap);
+    chiselbrow_put_(cited + 9, 1, name);
+    return CHISELBROW_NAME_SIZE;
+}
+
+/* By ordinal in the year: kind 3. */
+static inline size_t
+chiselbrow_cite_ordinal(uint8_t cited[CHISELBROW_ORDINAL_SIZE], int64_t system,
+                        int64_t year, int64_t ordinal)
+{
+    chiselbrow_begin_(cited, CHISELBROW_ORDINAL_SIZE, CHISELBROW_KIND_ORDINAL,
+                      system);
+    chiselbrow_put_(cited + 5, 2, year);
+    chiselbrow_put_(cited + 7, 2, ordinal);
+    return CHISELBROW_ORDINAL_SIZE;
+}
+
+/* By register day: kind 4. */
+static inline size_t
+chiselbrow_cite_day(uint8_t cited[CHISELBROW_DAY_SIZE], int64_t system,
+                    int64_t register_day)
+{
+    chiselbrow_begin_(cited, CHISELBROW_DAY_SIZE, CHISELBROW_KIND_DAY, system);
+    chiselbrow_put_(cited + 5, 4, register_day);
+    return CHISELBROW_DAY_SIZE;
+}
+
+/* What a stored record tells. */
+struct chiselbrow_date {
+    unsigned system;    /* CHISELBROW_GUANTIAN or CHISELBROW_JIYUAN */
+    unsigned year;      /* 1 to 3000 */
+    unsigned month;     /* 1 to 12 */
+    unsigned leap;      /* 1 for a leap month, and otherwise 0 */
+    unsigned day;       /* of the month, 1 to 30 */
+};
+
+/* Reads a stored record. Returns 1 and fills the date in if the bytes have the
+ * form of one: ten of them, the length and kind of a stored record, and
+ * numbers within the bounds beside the fields above. Returns 0 and leaves the
+ * date alone if they have not. All that chiselbrow_store writes has the form.
+ * Bytes from elsewhere can have it and name no day, as day 30 of a month of
+ * 29; chiselbrow_store refuses those. The pointer may be null if the length is
+ * 0. */
+static inline int
+chiselbrow_read_date(const uint8_t *record, size_t record_len,
+                     struct chiselbrow_date *date)
+{
+    struct chiselbrow_date read;
+
+    if (record_len != CHISELBROW_STORED_SIZE ||
+        record[0] != CHISELBROW_STORED_SIZE || record[1] != 0 ||
+        record[2] != CHISELBROW_KIND_STORED || record[3] != 0)
+        return 0;
+    read.system = record[4];
+    read.year = record[5] + 256u * record[6];
+    read.month = record[7];
+    read.leap = record[8];
+    read.day = record[9];
+    if ((read.system != CHISELBROW_GUANTIAN &&
+         read.system != CHISELBROW_JIYUAN) ||
+        read.year < 1 || read.year > 3000 ||
+        read.month < 1 || read.month > 12 || read.leap > 1 ||
+        read.day < 1 || read.day > 30)
+        return 0;
+    *date = read;
+    return 1;
 }
 
 #ifdef __cplusplus

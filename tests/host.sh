@@ -1,5 +1,5 @@
 #!/usr/bin/env bash
-# The example host: case 9 in all four kinds, refusals, and arguments that are no hex.
+# The example host: case 9 in all four kinds, refusals, arguments that are no hex, an output that is full.
 set -euo pipefail
 cd "$(dirname "$0")/.."
 
@@ -32,6 +32,14 @@ expect '2 ' '0A 0 0'
 expect '2 ' 0G
 expect '2 ' 0x0A
 expect '2 ' -1
+version=$(sed -n 's/^#define CHISELBROW_VERSION "\([0-9]*\.[0-9]*\.[0-9]*\)"$/\1/p' include/chiselbrow.h)
+expect "0 store ${version:?}" --version
+
+for arguments in 090004000168 0900040001685C2000 --version; do
+    status=0
+    build/store "$arguments" 2> /dev/null > /dev/full || status=$?
+    [ "$status" = 2 ] || { echo "host: status $status for store $arguments to a full output" >&2; exit 1; }
+done
 told=$(build/store 0G 2>&1 > /dev/null || true)
 [ "${told%%:*}" = usage ] || { echo "host: no usage line, but: $told" >&2; exit 1; }
 echo "host: stored, refused and sent back as it must"

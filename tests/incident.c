@@ -21,53 +21,43 @@ static void require(int holds, const char *what, unsigned system, uint32_t day)
     exit(1);
 }
 
-/* The citation must be accepted and name the day. */
-static void store(const uint8_t *cited, size_t length, uint32_t day, uint8_t *stored)
-{
-    uint64_t answer = chiselbrow_store(cited, length, stored, CHISELBROW_STORED_SIZE);
-
-    require(chiselbrow_refusal(answer) == CHISELBROW_ACCEPTED, "refused", cited[4], day);
-    require(chiselbrow_day(answer) == day, "another day", cited[4], day);
-}
-
 struct lot {
+    unsigned system;
     uint32_t day;
+    unsigned month, leap;    /* of year 1094 */
     uint8_t record[CHISELBROW_STORED_SIZE];
 };
 
 static const struct lot lots[] = {
     /* Guantian 1094: leap month 5, day 1, and month 7, day 2. */
-    {FIRST, {0x0A, 0, 1, 0, CHISELBROW_GUANTIAN, 0x46, 0x04, 5, 1, 1}},
-    {SECOND, {0x0A, 0, 1, 0, CHISELBROW_GUANTIAN, 0x46, 0x04, 7, 0, 2}},
+    {CHISELBROW_GUANTIAN, FIRST, 5, 1, {0x0A, 0, 1, 0, 1, 0x46, 0x04, 5, 1, 1}},
+    {CHISELBROW_GUANTIAN, SECOND, 7, 0, {0x0A, 0, 1, 0, 1, 0x46, 0x04, 7, 0, 2}},
     /* Jiyuan 1094: month 5, day 1, and month 7, day 2. */
-    {FIRST, {0x0A, 0, 1, 0, CHISELBROW_JIYUAN, 0x46, 0x04, 5, 0, 1}},
-    {SECOND, {0x0A, 0, 1, 0, CHISELBROW_JIYUAN, 0x46, 0x04, 7, 0, 2}},
+    {CHISELBROW_JIYUAN, FIRST, 5, 0, {0x0A, 0, 1, 0, 2, 0x46, 0x04, 5, 0, 1}},
+    {CHISELBROW_JIYUAN, SECOND, 7, 0, {0x0A, 0, 1, 0, 2, 0x46, 0x04, 7, 0, 2}},
 };
 
-/* A citation of the lot must be stored as the lot's record. */
+/* A citation of the lot must name its day and be stored as its record. */
 static void check(const struct lot *lot, const uint8_t *cited, size_t length, const char *what)
 {
     uint8_t stored[CHISELBROW_STORED_SIZE];
+    uint64_t answer = chiselbrow_store(cited, length, stored, sizeof stored);
 
-    store(cited, length, lot->day, stored);
-    require(memcmp(stored, lot->record, sizeof stored) == 0, what, lot->record[4], lot->day);
+    require(chiselbrow_refusal(answer) == CHISELBROW_ACCEPTED, "refused", lot->system, lot->day);
+    require(chiselbrow_day(answer) == lot->day, "another day", lot->system, lot->day);
+    require(memcmp(stored, lot->record, sizeof stored) == 0, what, lot->system, lot->day);
 }
 
 static void check_lot(const struct lot *lot)
 {
-    uint8_t by_day[CHISELBROW_DAY_SIZE] = {CHISELBROW_DAY_SIZE, 0, CHISELBROW_KIND_DAY, 0};
-    uint8_t by_name[CHISELBROW_NAME_SIZE];
+    uint8_t cited[CHISELBROW_CITATION_ROOM];
+    size_t length;
 
-    require((lot->day + 49) % 60 == NAME, "another name", lot->record[4], lot->day);
-    by_day[4] = lot->record[4];
-    for (int i = 0; i < 4; i++)
-        by_day[5 + i] = (uint8_t)(lot->day >> 8 * i);
-    check(lot, by_day, sizeof by_day, "by day, another record");
-
-    memcpy(by_name, lot->record, sizeof by_name);
-    by_name[2] = CHISELBROW_KIND_NAME;
-    by_name[9] = NAME;
-    check(lot, by_name, sizeof by_name, "by name, another record");
+    require((lot->day + 49) % 60 == NAME, "another name", lot->system, lot->day);
+    length = chiselbrow_cite_day(cited, lot->system, lot->day);
+    check(lot, cited, length, "by day, another record");
+    length = chiselbrow_cite_name(cited, lot->system, 1094, lot->month, lot->leap, NAME);
+    check(lot, cited, length, "by name, another record");
     check(lot, lot->record, sizeof lot->record, "read back, another record");
 }
 
@@ -80,7 +70,7 @@ int main(void)
     for (size_t i = 0; i < count; i++)
         for (size_t j = 0; j < i; j++)
             require(memcmp(lots[i].record, lots[j].record, CHISELBROW_STORED_SIZE) != 0,
-                    "the same record as another lot", lots[i].record[4], lots[i].day);
+                    "the same record as another lot", lots[i].system, lots[i].day);
     printf("incident: days %d and %d share name %d and have records of their own\n",
            FIRST, SECOND, NAME);
     return 0;

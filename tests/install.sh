@@ -1,28 +1,55 @@
 #!/usr/bin/env bash
-# What is installed is enough to build a host and to read about it, and DESTDIR moves it without being written into it.
+# What is installed is enough to build a host, with the archive and with the shared library, and to read about it, and
+# DESTDIR moves it without being written into it.
 set -euo pipefail
 cd "$(dirname "$0")/.."
 scratch=$(mktemp -d)
 trap 'rm -rf "$scratch"' EXIT
+version=$(sed -n 's/^#define CHISELBROW_VERSION "\(.*\)"$/\1/p' include/chiselbrow.h)
+soname=libchiselbrow.so.${version%%.*}
 
 fail() {
     echo "install: $*" >&2
     exit 1
 }
 
+# The first line that a host says of the day of case 9.
+says() {
+    local came
+    came=$("$@" 09 00 04 00 01 68 5C 20 00 | head -n 1)
+    [ "$came" = 'day 2120808' ] || fail "$* says: $came"
+}
+
 make --silent install PREFIX="$scratch" DESTDIR=
 export PKG_CONFIG_PATH=$scratch/lib/pkgconfig
+[ "$(pkg-config --modversion chiselbrow)" = "${version:?}" ] || fail "another version than $version"
 read -ra flags <<< "$(pkg-config --cflags --libs chiselbrow)"
-"${CC:-gcc}" -std=c11 examples/store.c "${flags[@]}" -o "$scratch/store"
-came=$("$scratch/store" 09 00 04 00 01 68 5C 20 00 | head -n 1)
-[ "$came" = 'day 2120808' ] || fail "a host built with what is installed says: $came"
+
+compile=("${CC:-gcc}" -std=c11 examples/store.c)
+"${compile[@]}" "${flags[@]}" -o "$scratch/shared"
+readelf -d "$scratch/shared" | grep -qF "[$soname]" || fail "a host is not linked with $soname"
+says env LD_LIBRARY_PATH="$scratch/lib" "$scratch/shared"
+"${compile[@]}" -Wl,-Bstatic "${flags[@]}" -Wl,-Bdynamic -o "$scratch/static"
+readelf -d "$scratch/static" | grep -qF libchiselbrow && fail "a host with the archive needs the shared library"
+says "$scratch/static"
+
+[ "$(readlink -f "$scratch/lib/libchiselbrow.so")" = "$(realpath "$scratch")/lib/libchiselbrow.so.$version" ] ||
+    fail "libchiselbrow.so leads elsewhere"
+
+says "$scratch/bin/store"
 came=$("$scratch/bin/chiselbrow" < examples/case-9.bin | tail -n 1)
 [ "$came" = 'refused 1' ] || fail "the installed program says: $came"
 [ -x "$scratch/bin/almanac" ] || fail "no almanac"
+
+man=$scratch/share/man
 for page in man1/chiselbrow.1 man1/almanac.1 man3/chiselbrow.3; do
-    [ -s "$scratch/share/man/$page" ] || fail "no $page"
+    cmp -s "man/${page#*/}" "$man/$page" || fail "no $page, or another one"
+done
+for function in store day refusal cite_date cite_name cite_ordinal cite_day read_date; do
+    [ "$(cat "$man/man3/chiselbrow_$function.3")" = '.so man3/chiselbrow.3' ] || fail "no page for chiselbrow_$function"
 done
 
 make --silent install PREFIX=/usr DESTDIR="$scratch/root"
 grep -qx 'prefix=/usr' "$scratch/root/usr/lib/pkgconfig/chiselbrow.pc" || fail "another prefix"
-echo "install: a host builds with what is installed"
+[ -e "$scratch/root/usr/lib/libchiselbrow.so" ] || fail "with DESTDIR libchiselbrow.so leads nowhere"
+echo "install: a host builds with what is installed, with the archive and with the shared library"

@@ -17,10 +17,11 @@ static void expect(const char *what, uint64_t answer, unsigned refusal, uint32_t
 
 int main(void)
 {
-    const uint8_t cited[CHISELBROW_DAY_SIZE] = {9, 0, 4, 0, 1, 0x68, 0x5C, 0x20, 0};
-    const uint8_t no_system[CHISELBROW_DAY_SIZE] = {9, 0, 4, 0, 3, 0x68, 0x5C, 0x20, 0};
+    uint8_t cited[CHISELBROW_DAY_SIZE], no_system[CHISELBROW_DAY_SIZE];
     uint8_t output[12], before[12];
 
+    chiselbrow_cite_day(cited, CHISELBROW_GUANTIAN, 2120808);
+    chiselbrow_cite_day(no_system, 3, 2120808);
     memset(output, 0xA5, sizeof output);
     memcpy(before, output, sizeof output);
     expect("no input", chiselbrow_store(NULL, 0, output, sizeof output),

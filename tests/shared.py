@@ -1,0 +1,45 @@
+#!/usr/bin/env python3
+"""The shared library, called from Python: case 9, a refusal, and outputs that are long and short."""
+
+import ctypes
+import os
+import sys
+
+os.chdir(os.path.join(os.path.dirname(os.path.abspath(__file__)), ".."))
+store = ctypes.CDLL("build/libchiselbrow.so").chiselbrow_store
+store.restype = ctypes.c_uint64
+store.argtypes = [ctypes.POINTER(ctypes.c_uint8), ctypes.c_size_t] * 2
+
+CASE_9 = [
+    "0A 00 01 00 01 46 04 05 01 01",
+    "0A 00 02 00 01 46 04 05 01 25",
+    "09 00 03 00 01 46 04 D0 00",
+    "09 00 04 00 01 68 5C 20 00",
+]
+STORED = bytes.fromhex(CASE_9[0])
+ORDINAL_385 = "09 00 03 00 01 46 04 81 01"
+
+
+def check(cited, room, answer, stored):
+    """The call must answer so, leave these bytes and what was behind them, and leave its input alone."""
+    citation = bytes.fromhex(cited)
+    before = bytes(0xA5 ^ i for i in range(room))
+    given = (ctypes.c_uint8 * len(citation))(*citation)
+    output = (ctypes.c_uint8 * room)(*before)
+    came = store(given, len(citation), output, room)
+    expected = (answer, stored + before[len(stored):], citation)
+    if (came, bytes(output), bytes(given)) != expected:
+        sys.exit(f"shared.py: {cited}, room for {room}: {came:#x}, output {bytes(output).hex(' ')}")
+
+
+for record in CASE_9:
+    check(record, 10, 2120808, STORED)
+    check(record, 16, 2120808, STORED)
+    check(record, 9, 8 << 32, b"")
+    check(record, 0, 8 << 32, b"")
+for room in 0, 9, 10, 16:
+    check(ORDINAL_385, room, 7 << 32, b"")
+check("", 16, 1 << 32, b"")
+if store(None, 0, None, 0) != 1 << 32:
+    sys.exit("shared.py: null pointers are not refused 1")
+print("shared.py: case 9 in four kinds, refusals that change no byte, outputs long and short")
