@@ -3,3 +3,5 @@
 pub mod Moving
 -- One turn, from what its steps leave.
 pub mod Turning
+-- However the input comes in pieces.
+pub mod WholeRun

@@ -115,6 +115,18 @@ pub(crate) fn field(out: &mut [u8], at: usize, n: u32) -> usize
     number(out, next, n)
 }
 
+// The same, of a number that most often has two digits at most: short enough to be inlined where it is used.
+fn small_field(out: &mut [u8], at: usize, n: u32) -> usize
+    requires { ⌜ at + 11 ≤ length (now out) ⌝ }
+    ensures { λ r. ⌜ Wrote (now (out .entry)) at (field n) (now (out .exit)) r × (r ≤ at + 11) ⌝ }
+{
+    if n < 100 {
+        let next = byte(out, at, b' ');
+        return below_100(out, next, n);
+    }
+    field(out, at, n)
+}
+
 // The byte of a system's letter.
 fn letter_of(system: u32) -> u8
     ensures { λ r. ⌜ r ≡ letterOf system ⌝ }
@@ -152,7 +164,7 @@ pub(crate) fn month(out: &mut [u8], at: usize, number: u32, leap: u8) -> usize
     requires { ⌜ at + 12 ≤ length (now out) ⌝ }
     ensures { λ r. ⌜ Wrote (now (out .entry)) at (month number leap) (now (out .exit)) r × (r ≤ at + 12) ⌝ }
 {
-    let next = field(out, at, number);
+    let next = small_field(out, at, number);
     star(out, next, leap)
 }
 
@@ -167,7 +179,7 @@ fn fields(out: &mut [u8], start: usize, numbers: &[u32]) -> usize
     let mut at = start;
     let mut i = 0;
     while i < numbers.len() {
-        at = field(out, at, numbers[i]);
+        at = small_field(out, at, numbers[i]);
         i += 1;
     }
     at

@@ -19,14 +19,14 @@ loop-holds : tie.Need-loop-holds Inv-loop μ-loop
 unfolding fields
 loop-holds c = (omega arith, omega arith, wrote-none _ _ (omega arith))
 
-mul-field : tie.Need-mul-field Inv-loop μ-loop
-mul-field c = search needs
+mul-small-field : tie.Need-mul-small-field Inv-loop μ-loop
+mul-small-field c = search needs
 
-shared-slice-read-field : tie.Need-shared-slice-read-field Inv-loop μ-loop
-shared-slice-read-field c = search needs
+shared-slice-read-small-field : tie.Need-shared-slice-read-small-field Inv-loop μ-loop
+shared-slice-read-small-field c = search needs
 
-field-requires : tie.Need-field-requires Inv-loop μ-loop
-field-requires c κs = search needs
+small-field-requires : tie.Need-small-field-requires Inv-loop μ-loop
+small-field-requires c κs = search needs
 
 add-i : tie.Need-add-i Inv-loop μ-loop
 add-i c = search needs
@@ -50,9 +50,9 @@ fields-spec =
     Inv-loop
     μ-loop
     loop-holds
-    mul-field
-    shared-slice-read-field
-    field-requires
+    mul-small-field
+    shared-slice-read-small-field
+    small-field-requires
     add-i
     loop-less
     loop-again

@@ -4,8 +4,8 @@ use borrow.Author.Needs.{needs}
 use Rattle.text.proofs.put.month.Statement.{statement}
 use Rattle.text.proofs.put.month.Tie as tie
 
-field-requires : tie.Need-field-requires
-field-requires c κs = search needs
+small-field-requires : tie.Need-small-field-requires
+small-field-requires c κs = search needs
 
 star-requires : tie.Need-star-requires
 star-requires c κs = search needs
@@ -17,4 +17,4 @@ returns : tie.Need-returns
 returns c = (search wrote-month, omega arith)
 
 pub month-spec : {M : Type 1} → statement M
-month-spec = tie.close (tie.spec field-requires star-requires same-length returns)
+month-spec = tie.close (tie.spec small-field-requires star-requires same-length returns)
