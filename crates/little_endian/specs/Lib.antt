@@ -1,0 +1,3 @@
+-- Numbers read from bytes.
+-- Numbers of two and of four bytes.
+pub mod Number

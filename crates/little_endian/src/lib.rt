@@ -1,0 +1,23 @@
+// Numbers read from bytes, the lowest byte first.
+ghost use mathlib.Core.Path.{_≡_};
+ghost use Prim.Native.Nat.{_<_, _^_};
+ghost use Rattle.little_endian.specs.Number.{le16, le32};
+
+// A byte as a number of 32 bits.
+pub fn wide(x: u8) -> u32
+    ensures { λ r. ⌜ (r ≡ x) × (r < 256) ⌝ }
+{
+    x as u32
+}
+
+pub fn le16(low: u8, high: u8) -> u32
+    ensures { λ r. ⌜ (r ≡ le16 low high) × (r < 2 ^ 16) ⌝ }
+{
+    wide(low) + 256 * wide(high)
+}
+
+pub fn le32(b0: u8, b1: u8, b2: u8, b3: u8) -> u32
+    ensures { λ r. ⌜ (r ≡ le32 b0 b1 b2 b3) × (r < 2 ^ 32) ⌝ }
+{
+    le16(b0, b1) + 65_536 * le16(b2, b3)
+}
