@@ -11,7 +11,7 @@ use Rattle.calendar.specs.ClosedForms.{firstMonth}
 use Rattle.reckoning.specs.Filled.{filled}
 use Rattle.reckoning.specs.Refusal.{yearRefusal}
 use Rattle.reckoning.specs.Requests.{solsticeOf, yearOf, monthsFrom, daysOf, monthOf, monthIn, dateOf, dateIn}
-use Rattle.citation.specs.Store.{judgeRegisterDay, judgeOrdinal, judgeDay, judgeName, judgeKind, judgeOf, refusalOf, storedInto}
+use Rattle.citation.specs.Store.{judgeRegisterDay, judgeOrdinal, judgeDay, judgeName, judgeKind, lengthRight, judgeOf, refusalOf, storedInto}
 use Rattle.reckoning.specs.YearValue.{headIn, numberIn, leapIn}
 
 pub data Question : Type 0 where
@@ -113,5 +113,5 @@ table =
 
 pub examples : map asked table ≡ map expected table
 unfolding answer asked expected table first-of-case-9 then byOrdinal byName solsticeOf yearOf yearRefusal monthsFrom filled
-    refusalOf storedInto judgeOf judgeKind judgeDay judgeName judgeOrdinal judgeRegisterDay daysOf monthOf monthIn dateOf dateIn
+    refusalOf storedInto judgeOf lengthRight judgeKind judgeDay judgeName judgeOrdinal judgeRegisterDay daysOf monthOf monthIn dateOf dateIn
 examples = refl

@@ -23,7 +23,7 @@ use Rattle.citation.specs.Named.{Dated, constantsIn, Names, OnDate}
 use Rattle.citation.specs.Refused.{Accepted, citationRows, WrongLength, WrongSystem, WrongYear, NotPlaced}
 use Rattle.citation.proofs.Rows.{none-applies}
 use Rattle.citation.proofs.Judged.{day-not-placed}
-use Rattle.citation.proofs.Refusals.{by-equal}
+use Rattle.citation.proofs.Judgements.{by-length}
 use Rattle.citation.proofs.TenBytes.{elements, elements-all}
 
 -- What an accepted citation does not have.
@@ -48,12 +48,9 @@ module _ (b : List ℕ) (a : Accepted b) (kind : kindOf b ≡ 1) where
   ten-long : (lengthField b ≡ 10) × (length b ≡ 10)
   ten-long =
       let long : kindLength (kindOf b) ≡ 10 = ap kindLength kind in
-      by-equal (lengthField b) (kindLength (kindOf b))
-      (λ f.
-      by-equal (length b) (lengthField b)
-      (λ g. (f ∙ long, g ∙ f ∙ long))
-      (λ g. absurd (rightly b a .length-right (λ p. g (p .1)))))
-      (λ f. absurd (rightly b a .length-right (λ p. f (p .0))))
+      by-length b
+      (λ e wrong. absurd (rightly b a .length-right wrong))
+      (λ e right. (right .0 ∙ long, right .1 ∙ right .0 ∙ long))
 
   -- it is the record of what it says
   pub record-of-fields : Bytes b → b ≡ recordOf (systemOf b) (yearField b) (monthField b) (leapField b) (dayField b)

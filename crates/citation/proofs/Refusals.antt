@@ -3,39 +3,35 @@ use Prim.Native.Nat.{ℕ}
 use mathlib.Core.Path.{_≡_, refl, subst, ap, sym, _∙_}
 use mathlib.Core.Logic.{inl, inr}
 use mathlib.Core.List.{List, [], _∷_}
-use native.Mathlib.Decide.{ℕ-discrete}
 use native.Mathlib.Omega.{arith}
 use lib.ListN.{length}
 use Rattle.calendar.specs.Inside.{Inside}
 use Rattle.calendar.proofs.Rising.{by-order}
 use Rattle.reckoning.proofs.Refusals.{by-inside}
 use Rattle.citation.specs.declared.judge.Judgement.{Judgement}
-use Rattle.citation.specs.Record.{lengthField, kindOf, kindLength}
+use Rattle.citation.specs.Record.{kindOf}
 use Rattle.reckoning.specs.Rows.{FirstOf, _when_}
 use Rattle.citation.specs.Refused.{TooShort, WrongKind, WrongLength, NoRoom, contentRows, citationRows, storingRows}
 use Rattle.citation.specs.Store.{judgeKind, judgeOf, refusalOf}
 use Rattle.citation.proofs.Rows.{first-unique, first-before, first-after}
 use Rattle.citation.proofs.Judgements.{kind-one, kind-two, kind-three, kind-four}
-use Rattle.citation.proofs.Judgements.{too-short, wrong-kind, wrong-field, wrong-size, right-size}
+use Rattle.citation.proofs.Judgements.{by-length, too-short, wrong-kind, wrong-length, right-record}
 use Rattle.citation.proofs.Judged.{Judged, day-judged, name-judged, ordinal-judged, register-day-judged}
 use Rattle.citation.proofs.Storing.{refusal-kept, refusal-eight, refusal-none}
-
-pub by-equal : {P : Type 0} (m n : ℕ) → (m ≡ n → P) → ((m ≡ n → ⊥) → P) → P
-by-equal m n f g = elim (ℕ-discrete m n) [ yes e ↦ f e | no e ↦ g e ]
 
 module _ (s : List ℕ) where
   -- A record by its kind.
   kind-judged : Inside 1 4 (kindOf s) → Judged (contentRows s) s (judgeKind s)
   kind-judged i =
       by-order (kindOf s) 2
-      (λ h. let e : kindOf s ≡ 1 = omega (arith, i) in subst (Judged (contentRows s) s) (kind-one s e) (day-judged s e))
+      (λ h. let e : kindOf s ≡ 1 = omega (arith, i) in subst (Judged (contentRows s) s) (kind-one s refl e refl refl refl refl refl) (day-judged s e))
       (λ h.
       by-order (kindOf s) 3
-      (λ l. let e : kindOf s ≡ 2 = omega arith in subst (Judged (contentRows s) s) (kind-two s e) (name-judged s e))
+      (λ l. let e : kindOf s ≡ 2 = omega arith in subst (Judged (contentRows s) s) (kind-two s refl e refl refl refl refl refl) (name-judged s e))
       (λ l.
       by-order (kindOf s) 4
-      (λ m. let e : kindOf s ≡ 3 = omega arith in subst (Judged (contentRows s) s) (kind-three s e) (ordinal-judged s e))
-      (λ m. let e : kindOf s ≡ 4 = omega (arith, i) in subst (Judged (contentRows s) s) (kind-four s e) (register-day-judged s e))))
+      (λ m. let e : kindOf s ≡ 3 = omega arith in subst (Judged (contentRows s) s) (kind-three s refl e refl refl refl) (ordinal-judged s e))
+      (λ m. let e : kindOf s ≡ 4 = omega (arith, i) in subst (Judged (contentRows s) s) (kind-four s refl e refl refl) (register-day-judged s e))))
 
   -- It is a record: its content decides.
   content-decides : (j : Judgement) → (TooShort s → ⊥) → (WrongKind s → ⊥) → (WrongLength s → ⊥)
@@ -47,23 +43,18 @@ module _ (s : List ℕ) where
   pub judged : Judged (citationRows s) s (judgeOf s)
   judged =
       by-order (length s) 4
-      (λ h. Judged.refused 1 (omega arith) (sym (too-short s h)) (inl (refl, h)))
+      (λ h. Judged.refused 1 (omega arith) (sym (too-short s h refl)) (inl (refl, h)))
       (λ h.
       by-inside 1 4 (kindOf s)
-      (λ e out. Judged.refused 2 (omega arith) (sym (wrong-kind s h e)) (inr (λ v. omega arith, inl (refl, out))))
+      (λ e out. Judged.refused 2 (omega arith) (sym (wrong-kind s refl h out refl)) (inr (λ v. omega arith, inl (refl, out))))
       (λ e into.
-      by-equal (lengthField s) (kindLength (kindOf s))
-      (λ f.
-      by-equal (length s) (lengthField s)
-      (λ g.
-      subst (Judged (citationRows s) s) (right-size s h e f g)
-      (content-decides (judgeKind s) (λ v. omega arith) (λ v. v into) (λ v. v (f, g)) (kind-judged into)))
-      (λ g.
-      Judged.refused 3 (omega arith) (sym (wrong-size s h e f g))
-      (inr (λ v. omega arith, inr (λ v. v into, inl (refl, λ p. g (p .1)))))))
-      (λ f.
-      Judged.refused 3 (omega arith) (sym (wrong-field s h e f))
-      (inr (λ v. omega arith, inr (λ v. v into, inl (refl, λ p. f (p .0))))))))
+      by-length s
+      (λ l wrong.
+      Judged.refused 3 (omega arith) (sym (wrong-length s refl h into l refl))
+      (inr (λ v. omega arith, inr (λ v. v into, inl (refl, wrong)))))
+      (λ l right.
+      subst (Judged (citationRows s) s) (right-record s refl h into l refl)
+      (content-decides (judgeKind s) (λ v. omega arith) (λ v. v into) (λ v. v right) (kind-judged into)))))
 
 -- The number that the storing step answers is that of the first row that applies, and 0 where none does;
 pub refusal-first : (s : List ℕ) (room : ℕ) → FirstOf (storingRows s room) (refusalOf s room)

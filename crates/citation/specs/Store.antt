@@ -1,6 +1,6 @@
 -- What the storing step answers and writes, for every input and output.
 use Prim.Native.Nat.{ℕ, _+_, _*_, _-_, _^_, _%_}
-use mathlib.Core.Bool.{Bool, cond, not, _&&_, _||_}
+use mathlib.Core.Bool.{Bool, cond, _&&_, _||_}
 use mathlib.Core.List.{List, _++_}
 use lib.Dec.{ltb, leb, eqb}
 use lib.ListN.{length, replicate, drop}
@@ -68,9 +68,9 @@ judgeNameInMonth m system year month leap name =
 unfoldable pub judgeName : ℕ → ℕ → ℕ → ℕ → ℕ → Judgement
 judgeName system year month leap name = judgeNameInMonth (monthOf system year month leap) system year month leap name
 
--- The length field or the input's length is not the kind's.
-abbrev pub lengthWrong : List ℕ → Bool
-lengthWrong s = not (eqb (lengthField s) (kindLength (kindOf s)) && eqb (length s) (lengthField s))
+-- The length field is the kind's length, and the input's own length is the field's.
+unfoldable pub lengthRight : List ℕ → Bool
+lengthRight s = eqb (lengthField s) (kindLength (kindOf s)) && eqb (length s) (lengthField s)
 
 unfoldable pub judgeKind : List ℕ → Judgement
 judgeKind s =
@@ -88,9 +88,9 @@ judgeOf s =
     (refuse 1)
     (cond (outside 1 4 (kindOf s))
     (refuse 2)
-    (cond (lengthWrong s)
-    (refuse 3)
-    (judgeKind s)))
+    (cond (lengthRight s)
+    (judgeKind s)
+    (refuse 3)))
 
 -- The refusal of a storing: the citation's own, and then 8 where the output has fewer than 10 bytes.
 unfoldable pub refusalOf : List ℕ → ℕ → ℕ

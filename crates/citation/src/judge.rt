@@ -1,15 +1,16 @@
 // The judgement of a citation: its refusal, or the day that it names and its stored record.
 ghost use mathlib.Core.Path.{_≡_};
-ghost use Prim.Native.Nat.{_<_};
-ghost use Rattle.citation.specs.Store.{refuse, accept, judgeRegisterDay, judgeOrdinal, judgeDay, judgeName, judgeKind, judgeOf};
-ghost use Rattle.citation.specs.Record.{kindLength};
+ghost use Prim.Native.Nat.{_≤_, _<_};
+ghost use lib.ListN.{length};
+ghost use Rattle.citation.specs.Store.{refuse, accept, judgeRegisterDay, judgeOrdinal, judgeDay, judgeName, lengthRight, judgeKind, judgeOf};
+ghost use Rattle.citation.specs.Record.{kindOf, kindLength};
 ghost use Rattle.citation.specs.JudgeInputs.{Fields, Whole};
-use crate::reading::byte;
-use crate::reading::le16;
-use crate::reading::le32;
 use calendar::data::DayName;
 use calendar::data::Ordinal;
 use calendar::data::RegisterDay;
+use little_endian::le16;
+use little_endian::le32;
+use little_endian::wide;
 use reckoning::refusal::outside;
 
 // `refusal` is 0 when the citation is accepted; refused, day and record are zeros.
@@ -124,17 +125,36 @@ fn judge_kind(s: &[u8], kind: u32) -> Judgement
     requires { ⌜ Whole (now s) kind ⌝ }
     ensures { λ r. ⌜ r ≡ judgeKind (now (s .entry)) ⌝ }
 {
-    let system = byte(s, 4);
+    let system = wide(s[4]);
     if kind == 1 {
-        return judge_day(system, le16(s, 5), byte(s, 7), byte(s, 8), byte(s, 9));
+        let year = le16(s[5], s[6]);
+        return judge_day(system, year, wide(s[7]), wide(s[8]), wide(s[9]));
     }
     if kind == 2 {
-        return judge_name(system, le16(s, 5), byte(s, 7), byte(s, 8), DayName(s[9]));
+        let year = le16(s[5], s[6]);
+        return judge_name(system, year, wide(s[7]), wide(s[8]), DayName(s[9]));
     }
     if kind == 3 {
-        return judge_ordinal(system, le16(s, 5), Ordinal(le16(s, 7) as u16));
+        let year = le16(s[5], s[6]);
+        return judge_ordinal(system, year, Ordinal(le16(s[7], s[8]) as u16));
     }
-    judge_register_day(system, RegisterDay(le32(s, 5)))
+    judge_register_day(system, RegisterDay(le32(s[5], s[6], s[7], s[8])))
+}
+
+// Bytes in a record of a kind.
+fn kind_length(kind: u32) -> u32
+    ensures { λ r. ⌜ r ≡ kindLength kind ⌝ }
+{
+    if kind <= 2 { 10 } else { 9 }
+}
+
+// The length field and the length of the input are those of the kind.
+fn length_right(s: &[u8], kind: u32) -> bool
+    requires { ⌜ (kind ≡ kindOf (now s)) × (4 ≤ length (now s)) ⌝ }
+    ensures { λ r. ⌜ r ≡ lengthRight (now (s .entry)) ⌝ }
+{
+    let length = kind_length(kind);
+    le16(s[0], s[1]) == length && s.len() == length as usize
 }
 
 // Any bytes.
@@ -144,23 +164,12 @@ pub fn judge(s: &[u8]) -> Judgement
     if s.len() < 4 {
         return refuse(1);
     }
-    let k = le16(s, 2);
-    if outside(1, 4, k) {
+    let kind = le16(s[2], s[3]);
+    if outside(1, 4, kind) {
         return refuse(2);
     }
-    let length = kind_length(k);
-    if le16(s, 0) != length {
-        return refuse(3);
+    if length_right(s, kind) {
+        return judge_kind(s, kind);
     }
-    if s.len() != length as usize {
-        return refuse(3);
-    }
-    judge_kind(s, k)
-}
-
-// Bytes in a record of a kind.
-fn kind_length(kind: u32) -> u32
-    ensures { λ r. ⌜ r ≡ kindLength kind ⌝ }
-{
-    if kind <= 2 { 10 } else { 9 }
+    refuse(3)
 }

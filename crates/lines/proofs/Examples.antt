@@ -4,7 +4,7 @@ use mathlib.Core.List.{List, [], _∷_, _++_}
 use Prim.Native.Nat.{ℕ}
 use Rattle.reckoning.specs.Refusal.{yearRefusal}
 use Rattle.reckoning.specs.Requests.{daysOf, monthOf, monthIn, dateOf, dateIn}
-use Rattle.citation.specs.Store.{judgeRegisterDay, judgeOrdinal, judgeDay, judgeName, judgeKind, judgeOf}
+use Rattle.citation.specs.Store.{judgeRegisterDay, judgeOrdinal, judgeDay, judgeName, judgeKind, lengthRight, judgeOf}
 use Rattle.lines.specs.Decimal.{decimal}
 use Rattle.lines.specs.Line.{lineOf}
 use Rattle.lines.specs.Program.{framingWithin, linesOf, outputOf}
@@ -27,5 +27,5 @@ last-line = 114 ∷ 101 ∷ 102 ∷ 117 ∷ 115 ∷ 101 ∷ 100 ∷ 32 ∷ 49 �
 
 pub shown-run : outputOf (case-9 ++ 0x00 ∷ []) ≡ day-line ++ day-line ++ day-line ++ day-line ++ last-line
 unfolding framingWithin linesOf lineOf decimal
-    judgeOf judgeKind judgeDay judgeName judgeOrdinal judgeRegisterDay yearRefusal daysOf monthOf monthIn dateOf dateIn
+    judgeOf lengthRight judgeKind judgeDay judgeName judgeOrdinal judgeRegisterDay yearRefusal daysOf monthOf monthIn dateOf dateIn
 shown-run = refl

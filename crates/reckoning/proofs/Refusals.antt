@@ -37,7 +37,7 @@ pub in-scope : (system year : ℕ) → InScope system year → yearRefusal syste
 unfolding yearRefusal
 in-scope system year s = simp (inside 1 2 system (s .system-inside), inside 1 3000 year (s .year-inside))
 
-not-inside : (least most x : ℕ) → outside least most x ≡ true → Inside least most x → ⊥
+pub not-inside : (least most x : ℕ) → outside least most x ≡ true → Inside least most x → ⊥
 not-inside least most x e h = true≢false (sym e ∙ inside least most x h)
 
 -- A number is in its range or not.
@@ -49,6 +49,9 @@ by-inside {P} least most x out into = go (outside least most x) refl
     go : (b : Bool) → outside least most x ≡ b → P
     go true e = out e (not-inside least most x e)
     go false e = into e (inside-of least most x e)
+
+pub outside-of : (least most x : ℕ) → (Inside least most x → ⊥) → outside least most x ≡ true
+outside-of least most x h = by-inside least most x (λ e out. e) (λ e into. absurd (h into))
 
 -- A request by system and year is refused 4, refused 5, or in scope.
 pub by-scope : {P : Type 0} (system year : ℕ)
