@@ -4,12 +4,12 @@ use mathlib.Core.Path.{_≡_, refl}
 use mathlib.Core.List.{List, [], _∷_, map}
 use lib.ListN.{replicate}
 use Rattle.calendar.specs.Systems.{constantsOf, yearsElapsed}
-use Rattle.calendar.specs.Name.{nameOf}
+use Rattle.calendar.specs.SixtyDayName.{nameOf}
 use Rattle.calendar.specs.Qi.{solstice}
 use Rattle.calendar.specs.Month.{newMoon}
 use Rattle.calendar.specs.ClosedForms.{firstMonth}
 use Rattle.reckoning.specs.Filled.{filled}
-use Rattle.reckoning.specs.Refusal.{yearRefusal}
+use Rattle.reckoning.specs.ComputedRefusals.{yearRefusal}
 use Rattle.reckoning.specs.Requests.{solsticeOf, yearOf, monthsFrom, daysOf, monthOf, monthIn, dateOf, dateIn}
 use Rattle.citation.specs.Store.{judgeRegisterDay, judgeOrdinal, judgeDay, judgeName, judgeKind, lengthRight, judgeOf, refusalOf, storedInto}
 use Rattle.reckoning.specs.YearValue.{headIn, numberIn, leapIn}

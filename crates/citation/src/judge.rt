@@ -12,6 +12,10 @@ use little_endian::le16;
 use little_endian::le32;
 use little_endian::wide;
 use reckoning::refusal::outside;
+use reckoning::refusal_numbers::DAY;
+use reckoning::refusal_numbers::KIND;
+use reckoning::refusal_numbers::LENGTH;
+use reckoning::refusal_numbers::SHORT;
 
 // `refusal` is 0 when the citation is accepted; refused, day and record are zeros.
 pub struct Judgement {
@@ -81,7 +85,7 @@ fn judge_ordinal(system: u32, year: u32, ordinal: Ordinal) -> Judgement
         return refuse(y.refusal);
     }
     if outside(1, y.length as u32, ordinal.0 as u32) {
-        return refuse(7);
+        return refuse(DAY);
     }
     judge_register_day(system, RegisterDay(y.head.0 + ordinal.0 as u32 - 1))
 }
@@ -96,7 +100,7 @@ fn judge_day(system: u32, year: u32, month: u32, leap: u32, day: u32) -> Judgeme
         return refuse(m.refusal);
     }
     if outside(1, m.length as u32, day) {
-        return refuse(7);
+        return refuse(DAY);
     }
     accept(m.head.0 + day - 1, system, year, month, leap, day)
 }
@@ -111,11 +115,11 @@ fn judge_name(system: u32, year: u32, month: u32, leap: u32, name: DayName) -> J
         return refuse(m.refusal);
     }
     if 59 < name.0 {
-        return refuse(7);
+        return refuse(DAY);
     }
     let days = (name.0 as u32 + 60 - reckoning::day_name(m.head).0 as u32) % 60;
     if m.length as u32 <= days {
-        return refuse(7);
+        return refuse(DAY);
     }
     accept(m.head.0 + days, system, year, month, leap, days + 1)
 }
@@ -162,14 +166,14 @@ pub fn judge(s: &[u8]) -> Judgement
     ensures { λ r. ⌜ r ≡ judgeOf (now (s .entry)) ⌝ }
 {
     if s.len() < 4 {
-        return refuse(1);
+        return refuse(SHORT);
     }
     let kind = le16(s[2], s[3]);
     if outside(1, 4, kind) {
-        return refuse(2);
+        return refuse(KIND);
     }
     if length_right(s, kind) {
         return judge_kind(s, kind);
     }
-    refuse(3)
+    refuse(LENGTH)
 }

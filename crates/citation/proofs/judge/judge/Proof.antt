@@ -1,8 +1,8 @@
 use mathlib.Core.Path.{sym, _∙_}
 use native.Mathlib.Omega.{arith}
 use Rattle.calendar.specs.Inside.{Inside}
-use Rattle.reckoning.proofs.Refusals.{inside-of, not-inside}
-use Rattle.citation.proofs.Judgements.{too-short, wrong-kind, wrong-length, right-record, whole}
+use Rattle.reckoning.proofs.RefusalCases.{inside-of, not-inside}
+use Rattle.citation.proofs.JudgementCases.{too-short, wrong-kind, wrong-length, right-record, whole}
 use borrow.Author.Needs.{needs}
 use Rattle.citation.proofs.judge.judge.Statement.{statement}
 use Rattle.citation.proofs.judge.judge.Tie as tie

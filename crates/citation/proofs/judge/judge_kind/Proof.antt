@@ -1,6 +1,6 @@
 use mathlib.Core.Path.{refl}
 use native.Mathlib.Omega.{arith}
-use Rattle.citation.proofs.Judgements.{kind-one, kind-two, kind-three, kind-four}
+use Rattle.citation.proofs.JudgementCases.{kind-one, kind-two, kind-three, kind-four}
 use borrow.Author.Needs.{needs}
 use Rattle.citation.proofs.judge.judge_kind.Statement.{statement}
 use Rattle.citation.proofs.judge.judge_kind.Tie as tie

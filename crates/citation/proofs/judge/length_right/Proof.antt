@@ -1,5 +1,5 @@
 use native.Mathlib.Omega.{arith}
-use Rattle.citation.proofs.Judgements.{field-wrong, field-right}
+use Rattle.citation.proofs.JudgementCases.{field-wrong, field-right}
 use borrow.Author.Needs.{needs}
 use Rattle.citation.proofs.judge.length_right.Statement.{statement}
 use Rattle.citation.proofs.judge.length_right.Tie as tie

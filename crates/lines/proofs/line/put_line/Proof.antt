@@ -1,5 +1,5 @@
 use native.Mathlib.Omega.{arith}
-use Rattle.citation.proofs.SmallFields.{small-fields}
+use Rattle.citation.proofs.TwoDigits.{small-fields}
 use Rattle.lines.proofs.Writing.{wrote-as}
 use Rattle.lines.proofs.Lines.{line-refused, line-accepted}
 use borrow.Author.Needs.{needs}

@@ -6,17 +6,18 @@ use mathlib.Core.List.{List}
 use native.Mathlib.Decide.{ℕ-discrete}
 use native.Mathlib.Omega.{arith}
 use lib.ListN.{length}
-use Rattle.reckoning.proofs.Refusals.{inside, outside-of}
+use Rattle.reckoning.proofs.RefusalCases.{inside, outside-of}
 use Rattle.calendar.specs.Inside.{Inside}
-use Rattle.calendar.specs.Name.{nameOf}
+use Rattle.calendar.specs.SixtyDayName.{nameOf}
 use Rattle.calendar.proofs.Rising.{by-order}
+use Rattle.reckoning.specs.RefusalNumbers.{SHORT, KIND, LENGTH, DAY}
 use Rattle.citation.specs.Record.{lengthField, kindOf, systemOf, kindLength}
 use Rattle.citation.specs.Record.{yearField, monthField, leapField, dayField, nameField, ordinalField, registerDayField}
 use Rattle.citation.specs.JudgeInputs.{Whole}
-use Rattle.citation.specs.Refused.{WrongLength}
+use Rattle.citation.specs.CitationRefusals.{WrongLength}
 use lib.Dec.{ltb, leb, eqb}
 use borrow.Author.Tests.{eq-eqb, ne-eqb, lt-ltb, le-ltb, le-leb, lt-leb}
-use Rattle.reckoning.specs.Refusal.{outside}
+use Rattle.reckoning.specs.ComputedRefusals.{outside}
 use Rattle.reckoning.specs.declared.data.Month.{Month}
 use Rattle.reckoning.specs.declared.data.Days.{Days}
 use Rattle.reckoning.specs.declared.data.Date.{Date}
@@ -37,7 +38,7 @@ module _ (refusal : ℕ) (wrong : Bool) (j : Judgement) where
   accepted-by : refusal ≡ 0 → j ≡ unlessRefused refusal j
   accepted-by h = simp (eq-eqb refusal 0 h)
 
-  wrong-place : refusal ≡ 0 → wrong ≡ true → refuse 7 ≡ unlessRefused refusal (unlessWrong wrong j)
+  wrong-place : refusal ≡ 0 → wrong ≡ true → refuse DAY ≡ unlessRefused refusal (unlessWrong wrong j)
   wrong-place h e = simp (eq-eqb refusal 0 h, e)
 
   right-place : refusal ≡ 0 → wrong ≡ false → j ≡ unlessRefused refusal (unlessWrong wrong j)
@@ -70,7 +71,7 @@ module _ (system year ordinal : ℕ) (y : Days) (e : y ≡ daysOf system year) w
   pub year-refused : (y .refusal ≡ 0 → ⊥) → refuse (y .refusal) ≡ judgeOrdinal system year ordinal
   year-refused h = refused-by (y .refusal) false (unlessWrong (outside 1 (y .length) ordinal) on-ordinal) h ∙ in-year
 
-  pub ordinal-wrong : y .refusal ≡ 0 → outside 1 (y .length) ordinal ≡ true → refuse 7 ≡ judgeOrdinal system year ordinal
+  pub ordinal-wrong : y .refusal ≡ 0 → outside 1 (y .length) ordinal ≡ true → refuse DAY ≡ judgeOrdinal system year ordinal
   ordinal-wrong h w = wrong-place (y .refusal) (outside 1 (y .length) ordinal) on-ordinal h w ∙ in-year
 
   pub ordinal-right : y .refusal ≡ 0 → outside 1 (y .length) ordinal ≡ false → on-ordinal ≡ judgeOrdinal system year ordinal
@@ -88,7 +89,7 @@ module _ (system year month leap day : ℕ) (m : Month) (e : m ≡ monthOf syste
   pub month-refused : (m .refusal ≡ 0 → ⊥) → refuse (m .refusal) ≡ judgeDay system year month leap day
   month-refused h = refused-by (m .refusal) false (unlessWrong (outside 1 (m .length) day) on-day) h ∙ in-month
 
-  pub day-wrong : m .refusal ≡ 0 → outside 1 (m .length) day ≡ true → refuse 7 ≡ judgeDay system year month leap day
+  pub day-wrong : m .refusal ≡ 0 → outside 1 (m .length) day ≡ true → refuse DAY ≡ judgeDay system year month leap day
   day-wrong h w = wrong-place (m .refusal) (outside 1 (m .length) day) on-day h w ∙ in-month
 
   pub day-right : m .refusal ≡ 0 → outside 1 (m .length) day ≡ false → on-day ≡ judgeDay system year month leap day
@@ -112,10 +113,10 @@ module _ (system year month leap name : ℕ) (m : Month) (e : m ≡ monthOf syst
   pub name-month-refused : (m .refusal ≡ 0 → ⊥) → refuse (m .refusal) ≡ judgeName system year month leap name
   name-month-refused h = refused-by (m .refusal) false (unlessWrong name-wrong on-name) h ∙ name-in-month
 
-  pub no-name : m .refusal ≡ 0 → 59 < name → refuse 7 ≡ judgeName system year month leap name
+  pub no-name : m .refusal ≡ 0 → 59 < name → refuse DAY ≡ judgeName system year month leap name
   no-name z h = wrong-place (m .refusal) name-wrong on-name z (simp (lt-ltb 59 name h)) ∙ name-in-month
 
-  pub name-past : m .refusal ≡ 0 → name ≤ 59 → m .length ≤ days → refuse 7 ≡ judgeName system year month leap name
+  pub name-past : m .refusal ≡ 0 → name ≤ 59 → m .length ≤ days → refuse DAY ≡ judgeName system year month leap name
   name-past z h l =
       wrong-place (m .refusal) name-wrong on-name z (simp (le-ltb 59 name h, le-leb (m .length) days l)) ∙ name-in-month
 
@@ -205,12 +206,12 @@ module _ (s : List ℕ) where
 
 -- The first three refusals, in their order, from what was read of the kind.
 module _ (s : List ℕ) {j : Judgement} where
-  pub too-short : length s < 4 → j ≡ refuse 1 → j ≡ judgeOf s
+  pub too-short : length s < 4 → j ≡ refuse SHORT → j ≡ judgeOf s
   unfolding judgeOf
   too-short h e = e ∙ simp (lt-ltb (length s) 4 h)
 
 module _ (s : List ℕ) {kind : ℕ} (is-kind : kind ≡ kindOf s) (long : 4 ≤ length s) where
-  pub wrong-kind : {j : Judgement} → (Inside 1 4 kind → ⊥) → j ≡ refuse 2 → j ≡ judgeOf s
+  pub wrong-kind : {j : Judgement} → (Inside 1 4 kind → ⊥) → j ≡ refuse KIND → j ≡ judgeOf s
   unfolding judgeOf
   wrong-kind h e =
       let out = outside-of 1 4 (kindOf s) (λ i. h (subst (Inside 1 4) (sym is-kind) i)) in
@@ -219,7 +220,7 @@ module _ (s : List ℕ) {kind : ℕ} (is-kind : kind ≡ kindOf s) (long : 4 ≤
   kind-inside : Inside 1 4 kind → outside 1 4 (kindOf s) ≡ false
   kind-inside i = inside 1 4 (kindOf s) (subst (Inside 1 4) is-kind i)
 
-  pub wrong-length : {j : Judgement} → Inside 1 4 kind → lengthRight s ≡ false → j ≡ refuse 3 → j ≡ judgeOf s
+  pub wrong-length : {j : Judgement} → Inside 1 4 kind → lengthRight s ≡ false → j ≡ refuse LENGTH → j ≡ judgeOf s
   unfolding judgeOf
   wrong-length i l e = e ∙ simp (le-ltb (length s) 4 long, kind-inside i, l)
 

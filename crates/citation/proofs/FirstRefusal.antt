@@ -7,17 +7,18 @@ use native.Mathlib.Omega.{arith}
 use lib.ListN.{length}
 use Rattle.calendar.specs.Inside.{Inside}
 use Rattle.calendar.proofs.Rising.{by-order}
-use Rattle.reckoning.proofs.Refusals.{by-inside}
+use Rattle.reckoning.proofs.RefusalCases.{by-inside}
+use Rattle.reckoning.specs.RefusalNumbers.{SHORT, KIND, LENGTH, OUTPUT}
 use Rattle.citation.specs.declared.judge.Judgement.{Judgement}
 use Rattle.citation.specs.Record.{kindOf}
-use Rattle.reckoning.specs.Rows.{FirstOf, _when_}
-use Rattle.citation.specs.Refused.{TooShort, WrongKind, WrongLength, NoRoom, contentRows, citationRows, storingRows}
+use Rattle.reckoning.specs.WordedRefusals.{FirstOf, _when_}
+use Rattle.citation.specs.CitationRefusals.{TooShort, WrongKind, WrongLength, NoRoom, contentRows, citationRows, storingRows}
 use Rattle.citation.specs.Store.{judgeKind, judgeOf, refusalOf}
-use Rattle.citation.proofs.Rows.{first-unique, first-before, first-after}
-use Rattle.citation.proofs.Judgements.{kind-one, kind-two, kind-three, kind-four}
-use Rattle.citation.proofs.Judgements.{by-length, too-short, wrong-kind, wrong-length, right-record}
-use Rattle.citation.proofs.Judged.{Judged, day-judged, name-judged, ordinal-judged, register-day-judged}
-use Rattle.citation.proofs.Storing.{refusal-kept, refusal-eight, refusal-none}
+use Rattle.citation.proofs.RowLaws.{first-unique, first-before, first-after}
+use Rattle.citation.proofs.JudgementCases.{kind-one, kind-two, kind-three, kind-four}
+use Rattle.citation.proofs.JudgementCases.{by-length, too-short, wrong-kind, wrong-length, right-record}
+use Rattle.citation.proofs.JudgedByKind.{Judged, day-judged, name-judged, ordinal-judged, register-day-judged}
+use Rattle.citation.proofs.Storing.{refusal-kept, refusal-output, refusal-none}
 
 module _ (s : List ℕ) where
   -- A record by its kind.
@@ -43,14 +44,14 @@ module _ (s : List ℕ) where
   pub judged : Judged (citationRows s) s (judgeOf s)
   judged =
       by-order (length s) 4
-      (λ h. Judged.refused 1 (omega arith) (sym (too-short s h refl)) (inl (refl, h)))
+      (λ h. Judged.refused SHORT (omega arith) (sym (too-short s h refl)) (inl (refl, h)))
       (λ h.
       by-inside 1 4 (kindOf s)
-      (λ e out. Judged.refused 2 (omega arith) (sym (wrong-kind s refl h out refl)) (inr (λ v. omega arith, inl (refl, out))))
+      (λ e out. Judged.refused KIND (omega arith) (sym (wrong-kind s refl h out refl)) (inr (λ v. omega arith, inl (refl, out))))
       (λ e into.
       by-length s
       (λ l wrong.
-      Judged.refused 3 (omega arith) (sym (wrong-length s refl h into l refl))
+      Judged.refused LENGTH (omega arith) (sym (wrong-length s refl h into l refl))
       (inr (λ v. omega arith, inr (λ v. v into, inl (refl, wrong)))))
       (λ l right.
       subst (Judged (citationRows s) s) (right-record s refl h into l refl)
@@ -64,15 +65,15 @@ refusal-first s room = go (judged s)
     go (Judged.refused number some e rows) =
         let number-is = ap (λ j. j .refusal) e in
         subst (FirstOf (storingRows s room)) (sym (refusal-kept s room (judgeOf s) refl (λ z. omega arith) ∙ number-is))
-        (first-before (citationRows s) (8 when NoRoom room ∷ []) number some rows)
+        (first-before (citationRows s) (OUTPUT when NoRoom room ∷ []) number some rows)
     go (Judged.accepted z rows kept) =
         by-order room 10
         (λ h.
-        subst (FirstOf (storingRows s room)) (sym (refusal-eight s room (judgeOf s) refl z h))
-        (first-after (citationRows s) (8 when NoRoom room ∷ []) 8 (omega arith) rows (inl (refl, h))))
+        subst (FirstOf (storingRows s room)) (sym (refusal-output s room (judgeOf s) refl z h))
+        (first-after (citationRows s) (OUTPUT when NoRoom room ∷ []) OUTPUT (omega arith) rows (inl (refl, h))))
         (λ h.
         subst (FirstOf (storingRows s room)) (sym (refusal-none s room (judgeOf s) refl z h))
-        (first-after (citationRows s) (8 when NoRoom room ∷ []) 0 (omega arith) rows (inr (λ v. omega arith, refl))))
+        (first-after (citationRows s) (OUTPUT when NoRoom room ∷ []) 0 (omega arith) rows (inr (λ v. omega arith, refl))))
 
 -- and no other number is.
 pub refusal-only : (s : List ℕ) (room number : ℕ) → FirstOf (storingRows s room) number → number ≡ refusalOf s room
