@@ -6,9 +6,9 @@ use native.Mathlib.Omega.{arith}
 use Rattle.reckoning.specs.declared.data.Year.{Year}
 use Rattle.reckoning.specs.Requests.{yearIn, noYear, yearOf}
 use Rattle.reckoning.specs.YearValue.{Tiled, headIn}
-use Rattle.reckoning.proofs.Answers.{refused-year}
-use Rattle.reckoning.proofs.MonthsHeld.{year-tiled}
-use Rattle.reckoning.proofs.Refusals.{by-scope}
+use Rattle.reckoning.proofs.AnswerUnless.{refused-year}
+use Rattle.reckoning.proofs.MonthsRight.{year-tiled}
+use Rattle.reckoning.proofs.RefusalCases.{by-scope}
 
 module _ (v : Year) (t : Tiled v) where
   pub thirteen-at-most : v .count ≤ 13

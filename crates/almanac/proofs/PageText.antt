@@ -11,10 +11,10 @@ use borrow.Author.Tests.{eq-eqb, ne-eqb}
 use Rattle.calendar.specs.Systems.{constantsOf, yearsElapsed}
 use Rattle.reckoning.specs.declared.data.Year.{Year}
 use Rattle.reckoning.specs.Requests.{yearOf, sheetOf, daysIn, noDays, daysOf}
-use Rattle.reckoning.proofs.Answers.{refused-year, answered-year}
-use Rattle.reckoning.proofs.InReach.{register-length-most}
-use Rattle.reckoning.proofs.Refusals.{by-scope}
-use Rattle.reckoning.proofs.Scope.{reach}
+use Rattle.reckoning.proofs.AnswerUnless.{refused-year, answered-year}
+use Rattle.reckoning.proofs.RegisterLaws.{register-length-most}
+use Rattle.reckoning.proofs.RefusalCases.{by-scope}
+use Rattle.reckoning.proofs.ScopeInRegister.{year-in-register}
 use Rattle.lines.specs.Line.{star, refusedLine}
 use Rattle.lines.specs.Wrote.{Wrote}
 use Rattle.lines.proofs.Writing.{wrote-then}
@@ -60,7 +60,7 @@ days-most system year =
     omega (arith, ap (λ v. v .length) (refused-year daysIn noDays system year 5 e (omega arith))))
     (λ s.
     let c = constantsOf system in
-    let most = register-length-most c (yearsElapsed c year) (reach system year (s .year-inside)) in
+    let most = register-length-most c (yearsElapsed c year) (year-in-register system year (s .year-inside)) in
     omega (arith, ap (λ v. v .length) (answered-year daysIn noDays system year s)))
 
 -- The page from a year's months: of a refused year, and of one answered.

@@ -2,7 +2,7 @@
 ghost use mathlib.Core.Path.{_≡_};
 ghost use Prim.Native.Nat.{_+_, _≤_, _<_};
 ghost use lib.ListN.{length};
-ghost use Rattle.calendar.specs.Name.{nameOf};
+ghost use Rattle.calendar.specs.SixtyDayName.{nameOf};
 ghost use Rattle.reckoning.specs.YearValue.{Tiled};
 ghost use Rattle.lines.specs.Line.{star, refusedLine};
 ghost use Rattle.lines.specs.Wrote.{Wrote};

@@ -10,15 +10,15 @@ use Rattle.calendar.specs.declared.data.Constants.{Constants}
 use Rattle.calendar.specs.Inside.{Inside}
 use Rattle.calendar.specs.ExactlyOne.{ExactlyOne}
 use Rattle.calendar.specs.Month.{monthHead, InMonth, monthLength, Holds, HoldsSome, Lacks}
-use Rattle.calendar.specs.Year.{Span, monthCount, yearHead, nextHead, yearLength, lengthsFrom, InYear, DayOfYear, MonthNamed}
+use Rattle.calendar.specs.Year.{Span, monthCount, yearHead, nextHead, yearLength, lengthsFrom, InYear, DayOfYear, MonthNumbered}
 use Rattle.calendar.specs.Consistent.{Consistent}
 use Rattle.calendar.specs.Calendar.{Calendar}
 use Rattle.calendar.specs.ClosedForms.{monthOfQi, qiOfMonth, monthOfDay, yearOfMonth, monthNumber, leapMark}
 use Rattle.calendar.specs.ClosedForms.{qiOfNumber, monthCited, leapFollows}
 use Rattle.calendar.proofs.Rising.{by-order}
-use Rattle.calendar.proofs.Months.{behind-most, head-monotone, month-from, month-before, month-unique}
-use Rattle.calendar.proofs.Months.{qi-unique, qi-of-held, count-least, count-most, in-its-year, year-unique}
-use Rattle.calendar.proofs.Months.{month-again, twelve-hold, thirteen-one-lacks}
+use Rattle.calendar.proofs.EveryCalendar.{behind-most, head-monotone, month-from, month-before, month-unique}
+use Rattle.calendar.proofs.EveryCalendar.{qi-unique, qi-of-held, count-least, count-most, in-its-year, year-unique}
+use Rattle.calendar.proofs.EveryCalendar.{month-again, twelve-hold, thirteen-one-lacks}
 use Rattle.calendar.proofs.Reckoned.{reckoned}
 use Rattle.calendar.proofs.Spans.{span, span-first, span-next, in-year, within}
 use Rattle.calendar.proofs.Numbers.{month-of-held, held-of-holds, holds-of-held}
@@ -161,21 +161,21 @@ module _ (c : Constants) (ok : Consistent c) where
       )
 
   -- Each month of a year has its number and its leap mark,
-  pub named : (n k : ℕ) → InYear c n k → MonthNamed c n (monthNumber c k) (leapMark c k) k
-  named n k i = record { in-year = i; bears = bears-its-number c ok k; marked = marked c ok k }
+  pub numbered : (n k : ℕ) → InYear c n k → MonthNumbered c n (monthNumber c k) (leapMark c k) k
+  numbered n k i = record { in-year = i; bears = bears-its-number c ok k; marked = marked c ok k }
 
   -- a number 1 to 12 and a mark 0 or 1,
-  pub number-inside : (n number mark k : ℕ) → MonthNamed c n number mark k → Inside 1 12 number
+  pub number-inside : (n number mark k : ℕ) → MonthNumbered c n number mark k → Inside 1 12 number
   number-inside n number mark k p =
       let e = number-unique c ok (p .bears) in record { at-least = omega arith; at-most = omega arith }
 
-  pub mark-inside : (n number mark k : ℕ) → MonthNamed c n number mark k → Inside 0 1 mark
+  pub mark-inside : (n number mark k : ℕ) → MonthNumbered c n number mark k → Inside 0 1 mark
   mark-inside n number mark k p =
       let e = mark-unique c ok (p .marked) in record { at-least = omega arith; at-most = omega (arith, behind-most K k) }
 
   -- which determine it within its year.
-  pub named-unique : (n number mark k l : ℕ) → MonthNamed c n number mark k → MonthNamed c n number mark l → k ≡ l
-  named-unique n number mark k l p q =
+  pub numbered-unique : (n number mark k l : ℕ) → MonthNumbered c n number mark k → MonthNumbered c n number mark l → k ≡ l
+  numbered-unique n number mark k l p q =
       let a = number-unique c ok (p .bears) in
       let b = number-unique c ok (q .bears) in
       let e : qiOfMonth c k % 12 ≡ qiOfMonth c l % 12 = omega arith in
@@ -189,13 +189,13 @@ module _ (c : Constants) (ok : Consistent c) where
       )
 
   -- A month is named by a number and a mark just where the closed form says.
-  pub cited-unique : (n number mark k : ℕ) → number ≤ 12 → MonthNamed c n number mark k → k ≡ monthCited c n number mark
+  pub cited-unique : (n number mark k : ℕ) → number ≤ 12 → MonthNumbered c n number mark k → k ≡ monthCited c n number mark
   cited-unique n number mark k b p =
       let w = within c ok n k (p .in-year) in
       let e : 12 * n + qiOfMonth c k % 12 ≡ qiOfNumber n number = omega (arith, number-unique c ok (p .bears)) in
       omega (arith, month-again K n k w, ap (monthOfQi c) e, mark-unique c ok (p .marked))
 
-  pub leap-follows : (n number k : ℕ) → number ≤ 12 → MonthNamed c n number 1 k → leapFollows c n number ≡ true
+  pub leap-follows : (n number k : ℕ) → number ≤ 12 → MonthNumbered c n number 1 k → leapFollows c n number ≡ true
   leap-follows n number k b p =
       let w = within c ok n k (p .in-year) in
       let e : qiOfMonth c k ≡ qiOfNumber n number = omega (arith, number-unique c ok (p .bears), year-unique K n k w) in
@@ -206,27 +206,27 @@ module _ (c : Constants) (ok : Consistent c) where
   -- The month that the closed form names has the number and the mark.
   cited-here : (n number mark : ℕ) → Inside 1 12 number
       → qiOfNumber n number ≡ qiOfMonth c (monthCited c n number mark)
-      → MonthNamed c n number mark (monthCited c n number mark)
+      → MonthNumbered c n number mark (monthCited c n number mark)
   cited-here n number mark h e =
       let k = monthCited c n number mark in
-      let numbered : monthNumber c k ≡ number = omega (arith, h) in
-      let marks : leapMark c k ≡ mark = omega (arith, ap (monthOfQi c) e) in
+      let number-is : monthNumber c k ≡ number = omega (arith, h) in
+      let mark-is : leapMark c k ≡ mark = omega (arith, ap (monthOfQi c) e) in
       let year : yearOfMonth c k ≡ n = omega arith in
-      subst₂ (λ x y. MonthNamed c n x y k) numbered marks
-      (named n k (subst (λ m. InYear c m k) year (in-year c ok (yearOfMonth c k) k (in-its-year K k))))
+      subst₂ (λ x y. MonthNumbered c n x y k) number-is mark-is
+      (numbered n k (subst (λ m. InYear c m k) year (in-year c ok (yearOfMonth c k) k (in-its-year K k))))
 
   -- Numbers 1 to 12 without the mark are all there; with the mark, where a leap month follows.
-  pub ordinary-cited : (n number : ℕ) → Inside 1 12 number → MonthNamed c n number 0 (monthCited c n number 0)
+  pub ordinary-cited : (n number : ℕ) → Inside 1 12 number → MonthNumbered c n number 0 (monthCited c n number 0)
   ordinary-cited n number h =
       cited-here n number 0 h (qi-of-held K (qiOfNumber n number) (monthCited c n number 0) (omega arith))
 
   pub leap-cited : (n number : ℕ) → Inside 1 12 number → leapFollows c n number ≡ true
-      → MonthNamed c n number 1 (monthCited c n number 1)
+      → MonthNumbered c n number 1 (monthCited c n number 1)
   leap-cited n number h f =
       cited-here n number 1 h
       (qi-unique K (qiOfNumber n number) (monthCited c n number 1) (omega arith) (ltb-true _ _ f))
 
-  pub numbers-all-there : (n number : ℕ) → Inside 1 12 number → ExactlyOne (λ k. MonthNamed c n number 0 k)
+  pub numbers-all-there : (n number : ℕ) → Inside 1 12 number → ExactlyOne (λ k. MonthNumbered c n number 0 k)
   numbers-all-there n number h =
       let it = ordinary-cited n number h in
-      record { it = monthCited c n number 0; has = it; only = λ l q. named-unique n number 0 l (monthCited c n number 0) q it }
+      record { it = monthCited c n number 0; has = it; only = λ l q. numbered-unique n number 0 l (monthCited c n number 0) q it }

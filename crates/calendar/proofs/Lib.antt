@@ -6,7 +6,7 @@ pub mod Cases
 -- Functions that rise at each step.
 pub mod Rising
 -- What holds in every calendar.
-pub mod Months
+pub mod EveryCalendar
 -- Constants that meet the list make a calendar.
 pub mod Reckoned
 -- The worded rules and the closed forms: the months of a year.
@@ -18,6 +18,6 @@ pub mod Laws
 -- Equal steps of a year, and moments told as days, parts and small units.
 pub mod Steps
 -- The names of days.
-pub mod Names
+pub mod NameLaws
 -- The list, checked for each system.
 pub mod EachSystem

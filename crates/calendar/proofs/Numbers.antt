@@ -11,7 +11,7 @@ use Rattle.calendar.specs.Consistent.{Consistent}
 use Rattle.calendar.specs.Calendar.{Calendar}
 use Rattle.calendar.specs.ClosedForms.{monthOfQi, qiOfMonth, monthNumber, leapMark}
 use Rattle.calendar.proofs.Rising.{by-order}
-use Rattle.calendar.proofs.Months.{Held, by-held, qi-of-held, held, qi-of-lacking, behind-most}
+use Rattle.calendar.proofs.EveryCalendar.{Held, by-held, qi-of-held, held, qi-of-lacking, behind-most}
 use Rattle.calendar.proofs.Steps.{exact}
 use Rattle.calendar.proofs.Reckoned.{reckoned}
 

@@ -7,7 +7,7 @@ use Rattle.calendar.specs.declared.data.Constants.{Constants}
 use Rattle.calendar.specs.Year.{Begins, Span, InYear}
 use Rattle.calendar.specs.Consistent.{Consistent}
 use Rattle.calendar.specs.ClosedForms.{firstMonth}
-use Rattle.calendar.proofs.Months.{Within}
+use Rattle.calendar.proofs.EveryCalendar.{Within}
 use Rattle.calendar.proofs.Reckoned.{reckoned}
 
 module _ (c : Constants) (ok : Consistent c) where

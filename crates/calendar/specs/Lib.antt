@@ -1,8 +1,8 @@
--- The reckoning of paper 01. The first five files render its rules in its order and can be checked against it by reading.
+-- The reckoning of paper 01. The first five files render its rules in its order, to be checked against it by reading.
 -- The constants of both systems, years elapsed, register days.
 pub mod Systems
 -- The sixty-day name of a day.
-pub mod Name
+pub mod SixtyDayName
 -- The solstice, equal steps of a year, and the 24 qi.
 pub mod Qi
 -- Mean new moons, the days of a month, the middle qi that it holds, its number and its leap mark.

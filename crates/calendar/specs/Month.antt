@@ -29,7 +29,8 @@ dayOfMonth c k place = monthHead c k + place - 1
 abbrev pub middleQi : Constants → ℕ → ℕ → ℕ
 middleQi c n j = qi c n (2 * j)
 
--- Reckoning, held middle qi: the moment of middle qi j of year n falls in month k, which runs from new moon to new moon.
+-- Reckoning, held middle qi: the moment of middle qi j of year n falls in month k, which runs from new moon to new
+-- moon.
 abbrev pub Holds : Constants → ℕ → ℕ → ℕ → Type 0
 Holds c k n j = (newMoon c k * c .units ≤ middleQi c n j) × (middleQi c n j < newMoon c (k + 1) * c .units)
 

@@ -23,8 +23,8 @@ step c s = c .year * c .units / s
 abbrev pub moment : Constants → ℕ → ℕ → ℕ → ℕ
 moment c s n i = solstice c n * c .units + i * step c s
 
--- Reckoning, qi i: i of 24 equal steps after T, with nothing rounded. Guantian's step is 15 days, 2,628 parts and 12 small
--- units; the printed 11 of 002 is corrected (see `guantian-step`).
+-- Reckoning, qi i: i of 24 equal steps after T, with nothing rounded. Guantian's step is 15 days, 2,628 parts and 12
+-- small units; the printed 11 of 002 is corrected (see `guantian-step`).
 abbrev pub qi : Constants → ℕ → ℕ → ℕ
 qi c n i = moment c 24 n i
 

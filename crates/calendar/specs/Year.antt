@@ -52,7 +52,7 @@ abbrev pub dayOfOrdinal : {c : Constants} {n : ℕ} → Span c n → ℕ → ℕ
 dayOfOrdinal y ordinal = yearHead y + ordinal - 1
 
 -- Month k of year n, known by its number and leap mark.
-pub record MonthNamed (c : Constants) (n number mark k : ℕ) : Type 0 where
+pub record MonthNumbered (c : Constants) (n number mark k : ℕ) : Type 0 where
   pub in-year : InYear c n k
   pub bears : Bears c k number
   pub marked : Marked c k mark
@@ -60,4 +60,4 @@ pub record MonthNamed (c : Constants) (n number mark k : ℕ) : Type 0 where
 -- Year n has a leap month with a number.
 pub record HasLeap (c : Constants) (n number : ℕ) : Type 0 where
   pub month : ℕ
-  pub is-leap : MonthNamed c n number 1 month
+  pub is-leap : MonthNumbered c n number 1 month

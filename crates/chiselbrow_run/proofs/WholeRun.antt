@@ -8,7 +8,7 @@ use lib.Dec.{leb}
 use lib.ListN.{length, drop, length-append, List·getD-append}
 use borrow.Author.Tests.{le-leb, leb-true, ne-eqb}
 use Rattle.calendar.proofs.Cases.{by-bool, both}
-use Rattle.reckoning.specs.Refusal.{outside}
+use Rattle.reckoning.specs.ComputedRefusals.{outside}
 use Rattle.little_endian.specs.Number.{le16}
 use Rattle.citation.specs.Record.{lengthField}
 use Rattle.lines.specs.Program.{misframed, framed, framing, linesOf, endingOf, outputOf, portionOf}

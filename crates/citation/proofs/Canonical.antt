@@ -8,18 +8,18 @@ use Rattle.calendar.specs.Systems.{constantsOf, yearsElapsed}
 use Rattle.calendar.proofs.EachSystem.{consistent}
 use Rattle.calendar.proofs.Reckoned.{reckoned}
 use Rattle.calendar.proofs.Spans.{within}
-use Rattle.reckoning.proofs.Scope.{reach}
+use Rattle.reckoning.proofs.ScopeInRegister.{year-in-register}
 use Rattle.citation.specs.Record.{kindOf, systemOf, recordOf}
-use Rattle.citation.specs.Named.{Names, OnDate}
-use Rattle.citation.specs.Refused.{Accepted, citationRows}
-use Rattle.citation.specs.Demanded.{stored}
+use Rattle.citation.specs.DayCited.{NamesDay, OnDate}
+use Rattle.citation.specs.CitationRefusals.{Accepted, citationRows}
+use Rattle.citation.specs.DemandWords.{stored}
 use Rattle.citation.specs.Store.{judgeOf, refusalOf, answerOf, storedInto}
-use Rattle.citation.proofs.Rows.{first-unique}
+use Rattle.citation.proofs.RowLaws.{first-unique}
 use Rattle.citation.proofs.OneDay.{names-unique}
 use Rattle.citation.proofs.OneDate.{record-unique}
 use Rattle.citation.proofs.StoredRecord.{record-accepted, record-names}
-use Rattle.citation.proofs.Judged.{Judged, Kept}
-use Rattle.citation.proofs.Refusals.{judged}
+use Rattle.citation.proofs.JudgedByKind.{Judged, Kept}
+use Rattle.citation.proofs.FirstRefusal.{judged}
 use Rattle.citation.proofs.Storing.{refusal-none, answer-accepted, output-accepted}
 
 -- An accepted citation's judgement is no refusal, and keeps the day that it names.
@@ -41,8 +41,8 @@ day-fits s a =
     let c = constantsOf (systemOf s) in
     let ok = consistent (systemOf s) in
     let year = passed s a .kept .year in
-    let w = within c ok (yearsElapsed c year) (d .k) (d .named .in-year) in
-    let head = (reach (systemOf s) year (d .in-scope .year-inside)) .head (d .k) (w .0) (omega arith) in
+    let w = within c ok (yearsElapsed c year) (d .k) (d .numbered .in-year) in
+    let head = (year-in-register (systemOf s) year (d .in-scope .year-inside)) .head (d .k) (w .0) (omega arith) in
     omega (arith, d .placed, d .day-is, (reckoned c ok) .month-most (d .k))
 
 module _ (s before : List ℕ) (a : Accepted s) (room : 10 ≤ length before) where
@@ -68,8 +68,8 @@ module _ (s before : List ℕ) (a : Accepted s) (room : 10 ≤ length before) wh
   pub stored-accepted : Accepted (stored s before)
   stored-accepted = subst Accepted (sym stored-is) (record-accepted _ _ _ _ _ _ (κ .dated))
 
-  pub stored-names : Names (stored s before) ((judgeOf s) .day .0)
-  stored-names = subst (λ t. Names t ((judgeOf s) .day .0)) (sym stored-is) (record-names _ _ _ _ _ _ (κ .dated))
+  pub stored-names : NamesDay (stored s before) ((judgeOf s) .day .0)
+  stored-names = subst (λ t. NamesDay t ((judgeOf s) .day .0)) (sym stored-is) (record-names _ _ _ _ _ _ (κ .dated))
 
   pub stored-system : systemOf (stored s before) ≡ systemOf s
   stored-system = ap systemOf stored-is
@@ -80,7 +80,7 @@ module _ (s before : List ℕ) (a : Accepted s) (room : 10 ≤ length before) wh
 -- A day's record, however the day was cited: whoever stores a day of a date gets the record of that date.
 pub stored-of-date : (s before : List ℕ) → Accepted s → 10 ≤ length before → (system r year month leap day : ℕ)
     → systemOf s ≡ system
-    → Names s r
+    → NamesDay s r
     → OnDate system r year month leap day
     → stored s before ≡ recordOf system year month leap day
 stored-of-date s before a room system r year month leap day e n d =

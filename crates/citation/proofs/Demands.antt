@@ -1,5 +1,6 @@
--- The customer's three demands as theorems. What they speak of is defined in the specs/ of the crates. The code is proved
--- to answer by `answerOf`, `storedInto`, `yearOf` and their like, for every input; that it ends, the language guarantees.
+-- The customer's three demands as theorems. What they speak of is defined in the specs/ of the crates. The code is
+-- proved to answer by `answerOf`, `storedInto`, `yearOf` and their like, for every input; that it ends, the language
+-- guarantees.
 use Prim.Native.Nat.{ℕ, _*_, _^_, _≤_, _<_}
 use mathlib.Core.Path.{_≡_, refl, subst, sym, ap, _∙_}
 use mathlib.Core.Logic.{_↔_}
@@ -13,27 +14,27 @@ use Rattle.calendar.proofs.EachSystem.{consistent}
 use Rattle.calendar.proofs.Spans.{span}
 use Rattle.calendar.proofs.Laws.{month-days, year-months, months-cover, months-stay-within, twelve-none-lacks, thirteen-one-leap}
 use Rattle.reckoning.specs.Scope.{InScope}
-use Rattle.reckoning.specs.Rows.{FirstOf, yearRows, qiRows}
-use Rattle.reckoning.specs.Refusal.{yearRefusal, qiRefusal}
+use Rattle.reckoning.specs.WordedRefusals.{FirstOf, yearRows, qiRows}
+use Rattle.reckoning.specs.ComputedRefusals.{yearRefusal, qiRefusal}
 use Rattle.reckoning.specs.Requests.{solsticeOf, noSolstice, qiOf, noQi, yearOf, noYear, sheetOf, noSheet, daysOf, monthOf, dateOf}
 use Rattle.reckoning.specs.Outcomes.{DaysOutcome, MonthOutcome, DateOutcome}
-use Rattle.reckoning.proofs.Blanks as Blanks
-use Rattle.reckoning.proofs.Outcomes as Outcomes
+use Rattle.reckoning.proofs.RefusedRequests as Blanks
+use Rattle.reckoning.proofs.RequestsEnd as Outcomes
 use Rattle.reckoning.specs.YearValue.{ListsMonths, Tiled}
-use Rattle.reckoning.specs.Held.{IsSolstice, IsQi, IsSheet}
-use Rattle.reckoning.proofs.MonthsHeld as MonthsHeld
-use Rattle.reckoning.proofs.AnswersHeld as AnswersHeld
+use Rattle.reckoning.specs.AnswerMeanings.{IsSolstice, IsQi, IsSheet}
+use Rattle.reckoning.proofs.MonthsRight as MonthsHeld
+use Rattle.reckoning.proofs.AnswersRight as AnswersHeld
 use Rattle.citation.specs.Record.{kindOf, systemOf, recordOf}
-use Rattle.citation.specs.Named.{Names, OnDate, Dated}
-use Rattle.citation.specs.Refused.{storingRows, Accepted}
+use Rattle.citation.specs.DayCited.{NamesDay, OnDate, Dated}
+use Rattle.citation.specs.CitationRefusals.{storingRows, Accepted}
 use Rattle.citation.specs.Store.{judgeOf, refusalOf, answerOf, storedInto}
 use Rattle.citation.proofs.OneDay.{names-unique}
 use Rattle.citation.proofs.OneDate.{record-unique}
 use Rattle.citation.proofs.StoredRecord.{record-accepted, record-names, record-bytes}
-use Rattle.citation.proofs.Refusals as Refusals
+use Rattle.citation.proofs.FirstRefusal as Refusals
 use Rattle.citation.proofs.Storing.{answer-refused, output-refused}
 use Rattle.citation.proofs.Canonical as Canonical
-use Rattle.citation.specs.Demanded.{stored, OneRecord, MonthsTile}
+use Rattle.citation.specs.DemandWords.{stored, OneRecord, MonthsTile}
 use Rattle.citation.proofs.KindOne as KindOne
 
 -- Demand 1. Whatever the bytes, the storing step gives the first refusal of the table that applies, and 0 where none
@@ -103,7 +104,7 @@ module _ (system year : ℕ) (i : InScope system year) where
   sheet-holds = AnswersHeld.sheet-holds system year i
 
 -- An accepted citation, of any kind, names one day;
-pub names-one-day : (s : List ℕ) → Accepted s → ExactlyOne (Names s)
+pub names-one-day : (s : List ℕ) → Accepted s → ExactlyOne (NamesDay s)
 names-one-day s a =
     record {
       it = (judgeOf s) .day .0;
@@ -112,7 +113,7 @@ names-one-day s a =
     }
 
 -- which has a date in its system;
-pub has-its-date : (s : List ℕ) → Accepted s → (r : ℕ) → Names s r → Dated (systemOf s) r
+pub has-its-date : (s : List ℕ) → Accepted s → (r : ℕ) → NamesDay s r → Dated (systemOf s) r
 has-its-date s a r m =
     let κ = Canonical.passed s a .kept in
     let same = names-unique s ((judgeOf s) .day .0) r (κ .names) m in
@@ -125,7 +126,7 @@ has-its-date s a r m =
     }
 
 -- stored in an output of ten bytes or more,
-module _ (s before : List ℕ) (a : Accepted s) (room : 10 ≤ length before) (r : ℕ) (m : Names s r) where
+module _ (s before : List ℕ) (a : Accepted s) (room : 10 ≤ length before) (r : ℕ) (m : NamesDay s r) where
   same-day : (judgeOf s) .day .0 ≡ r
   same-day = names-unique s ((judgeOf s) .day .0) r (Canonical.passed s a .kept .names) m
 
@@ -144,8 +145,8 @@ module _ (s before : List ℕ) (a : Accepted s) (room : 10 ≤ length before) (r
       → stored s before ≡ recordOf (systemOf s) year month leap day
   stores-its-date year month leap day d = Canonical.stored-of-date s before a room (systemOf s) r year month leap day refl m d
 
-  pub stores-its-day : Names (stored s before) r
-  stores-its-day = subst (Names (stored s before)) same-day (Canonical.stored-names s before a room)
+  pub stores-its-day : NamesDay (stored s before) r
+  stores-its-day = subst (NamesDay (stored s before)) same-day (Canonical.stored-names s before a room)
 
   pub stores-kind-one : kindOf (stored s before) ≡ 1
   stores-kind-one = Canonical.stored-kind s before a room
@@ -160,7 +161,7 @@ module _ (s before : List ℕ) (a : Accepted s) (room : 10 ≤ length before) (r
 -- Demand 3. Two accepted citations of any kinds and systems, stored over whatever their outputs held: the records are
 -- equal just when system and day are.
 pub equal-exactly-when : (s before t under : List ℕ) → Accepted s → 10 ≤ length before → Accepted t → 10 ≤ length under
-    → (r q : ℕ) → Names s r → Names t q
+    → (r q : ℕ) → NamesDay s r → NamesDay t q
     → (stored s before ≡ stored t under) ↔ ((systemOf s ≡ systemOf t) × (r ≡ q))
 equal-exactly-when s before t under a room b space r q m o = (λ e. (same-system e, same-day-named e), λ p. same-record (p .0) (p .1))
   where
@@ -170,7 +171,7 @@ equal-exactly-when s before t under a room b space r q m o = (λ e. (same-system
 
     same-day-named : stored s before ≡ stored t under → r ≡ q
     same-day-named e =
-        let here = subst (λ x. Names x r) e (stores-its-day s before a room r m) in
+        let here = subst (λ x. NamesDay x r) e (stores-its-day s before a room r m) in
         names-unique (stored t under) r q here (stores-its-day t under b space q o)
 
     same-record : systemOf s ≡ systemOf t → r ≡ q → stored s before ≡ stored t under

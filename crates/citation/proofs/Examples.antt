@@ -4,14 +4,14 @@ use mathlib.Core.Path.{_≡_, refl}
 use mathlib.Core.List.{List, [], _∷_, map}
 use lib.ListN.{replicate}
 use Rattle.calendar.specs.Systems.{constantsOf, yearsElapsed}
-use Rattle.calendar.specs.Name.{nameOf}
+use Rattle.calendar.specs.SixtyDayName.{nameOf}
 use Rattle.calendar.specs.Qi.{solstice}
 use Rattle.calendar.specs.Month.{newMoon}
 use Rattle.calendar.specs.ClosedForms.{firstMonth}
 use Rattle.reckoning.specs.Filled.{filled}
-use Rattle.reckoning.specs.Refusal.{yearRefusal}
+use Rattle.reckoning.specs.ComputedRefusals.{yearRefusal}
 use Rattle.reckoning.specs.Requests.{solsticeOf, yearOf, monthsFrom, daysOf, monthOf, monthIn, dateOf, dateIn}
-use Rattle.citation.specs.Store.{judgeRegisterDay, judgeOrdinal, judgeDay, judgeName, judgeKind, judgeOf, refusalOf, storedInto}
+use Rattle.citation.specs.Store.{judgeRegisterDay, judgeOrdinal, judgeDay, judgeName, judgeKind, lengthRight, judgeOf, refusalOf, storedInto}
 use Rattle.reckoning.specs.YearValue.{headIn, numberIn, leapIn}
 
 pub data Question : Type 0 where
@@ -113,5 +113,5 @@ table =
 
 pub examples : map asked table ≡ map expected table
 unfolding answer asked expected table first-of-case-9 then byOrdinal byName solsticeOf yearOf yearRefusal monthsFrom filled
-    refusalOf storedInto judgeOf judgeKind judgeDay judgeName judgeOrdinal judgeRegisterDay daysOf monthOf monthIn dateOf dateIn
+    refusalOf storedInto judgeOf lengthRight judgeKind judgeDay judgeName judgeOrdinal judgeRegisterDay daysOf monthOf monthIn dateOf dateIn
 examples = refl

@@ -13,17 +13,17 @@ use Rattle.reckoning.specs.Requests.{dateOf}
 use Rattle.reckoning.specs.Outcomes.{DateOutcome}
 use Rattle.calendar.proofs.EachSystem.{consistent}
 use Rattle.calendar.proofs.Spans.{span-first}
-use Rattle.reckoning.proofs.Scope.{reach}
-use Rattle.reckoning.proofs.InReach.{first-head}
-use Rattle.reckoning.proofs.Refusals.{by-inside}
-use Rattle.reckoning.proofs.Outcomes.{date-outcome, year-day-in-scope}
+use Rattle.reckoning.proofs.ScopeInRegister.{year-in-register}
+use Rattle.reckoning.proofs.RegisterLaws.{first-head}
+use Rattle.reckoning.proofs.RefusalCases.{by-inside}
+use Rattle.reckoning.proofs.RequestsEnd.{date-outcome, year-day-in-scope}
 use Rattle.citation.specs.Record.{byte, Bytes, lengthField, kindOf, kindLength, systemOf, recordOf}
 use Rattle.citation.specs.Record.{yearField, monthField, leapField, dayField}
-use Rattle.citation.specs.Named.{Dated, constantsIn, Names, OnDate}
-use Rattle.citation.specs.Refused.{Accepted, citationRows, WrongLength, WrongSystem, WrongYear, NotPlaced}
-use Rattle.citation.proofs.Rows.{none-applies}
-use Rattle.citation.proofs.Judged.{day-not-placed}
-use Rattle.citation.proofs.Refusals.{by-equal}
+use Rattle.citation.specs.DayCited.{Dated, constantsIn, NamesDay, OnDate}
+use Rattle.citation.specs.CitationRefusals.{Accepted, citationRows, WrongLength, WrongSystem, WrongYear, NotPlaced}
+use Rattle.citation.proofs.RowLaws.{none-applies}
+use Rattle.citation.proofs.JudgedByKind.{day-not-placed}
+use Rattle.citation.proofs.JudgementCases.{by-length}
 use Rattle.citation.proofs.TenBytes.{elements, elements-all}
 
 -- What an accepted citation does not have.
@@ -48,12 +48,9 @@ module _ (b : List ℕ) (a : Accepted b) (kind : kindOf b ≡ 1) where
   ten-long : (lengthField b ≡ 10) × (length b ≡ 10)
   ten-long =
       let long : kindLength (kindOf b) ≡ 10 = ap kindLength kind in
-      by-equal (lengthField b) (kindLength (kindOf b))
-      (λ f.
-      by-equal (length b) (lengthField b)
-      (λ g. (f ∙ long, g ∙ f ∙ long))
-      (λ g. absurd (rightly b a .length-right (λ p. g (p .1)))))
-      (λ f. absurd (rightly b a .length-right (λ p. f (p .0))))
+      by-length b
+      (λ e wrong. absurd (rightly b a .length-right wrong))
+      (λ e right. (right .0 ∙ long, right .1 ∙ right .0 ∙ long))
 
   -- it is the record of what it says
   pub record-of-fields : Bytes b → b ≡ recordOf (systemOf b) (yearField b) (monthField b) (leapField b) (dayField b)
@@ -77,21 +74,21 @@ module _ (b : List ℕ) (a : Accepted b) (kind : kindOf b ≡ 1) where
       }
 
   -- the day that it names is on the date that it says
-  pub on-its-date : (r : ℕ) → Names b r → OnDate (systemOf b) r (yearField b) (monthField b) (leapField b) (dayField b)
-  on-its-date r (Names.by-day e k m d) =
+  pub on-its-date : (r : ℕ) → NamesDay b r → OnDate (systemOf b) r (yearField b) (monthField b) (leapField b) (dayField b)
+  on-its-date r (NamesDay.by-day e k m d) =
       record {
         k = k;
         in-scope = in-scope;
-        named = m;
+        numbered = m;
         placed =
             by-inside 1 (monthLength (constantsIn b) k) (dayField b)
             (λ f out. absurd (rightly b a .place-right (day-not-placed b kind k m out)))
             (λ f into. into);
         day-is = d;
       }
-  on-its-date r (Names.by-name e k m i n) = absurd (omega arith)
-  on-its-date r (Names.by-ordinal e y d) = absurd (omega arith)
-  on-its-date r (Names.by-register-day e d) = absurd (omega arith)
+  on-its-date r (NamesDay.by-name e k m i n) = absurd (omega arith)
+  on-its-date r (NamesDay.by-ordinal e y d) = absurd (omega arith)
+  on-its-date r (NamesDay.by-register-day e d) = absurd (omega arith)
 
 -- Every count day of a year in scope has a register day,
 pub registered : (system year d : ℕ) → InScope system year → DayOfYear (constantsOf system) (yearsElapsed (constantsOf system) year) d
@@ -99,7 +96,7 @@ pub registered : (system year d : ℕ) → InScope system year → DayOfYear (co
 registered system year d i y =
     let c = constantsOf system in
     let n = yearsElapsed c year in
-    let head = first-head c n (reach system year (i .year-inside)) in
+    let head = first-head c n (year-in-register system year (i .year-inside)) in
     (registerDay c d, omega (arith, y .from, ap (monthHead c) (span-first c (consistent system) (y .span))))
 
 -- and a date.
@@ -120,7 +117,7 @@ dated system year r i d = go (dateOf system r) (date-outcome system r)
           on = record {
             k = f .k;
             in-scope = f .in-scope;
-            named = f .named;
+            numbered = f .numbered;
             placed = record { at-least = omega arith; at-most = omega arith };
             day-is = omega arith;
           };

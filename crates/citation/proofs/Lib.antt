@@ -1,18 +1,18 @@
 -- Proofs that serve several functions, and the theorems of the three demands.
 -- The cases of each kind's judgement.
-pub mod Judgements
+pub mod JudgementCases
 -- Ten bytes at the front of an output.
 pub mod TenBytes
 -- The three ways in which a storing ends.
 pub mod Storing
 -- Rows of refusals.
-pub mod Rows
+pub mod RowLaws
 -- A citation names one day at most.
 pub mod OneDay
 -- How a citation is judged.
-pub mod Judged
+pub mod JudgedByKind
 -- Every citation is judged by the table.
-pub mod Refusals
+pub mod FirstRefusal
 -- A register day has one date in a system.
 pub mod OneDate
 -- A stored record is itself a citation.
@@ -26,4 +26,4 @@ pub mod Demands
 -- The proved examples of paper 01.
 pub mod Examples
 -- A stored record's month and day have two digits at most.
-pub mod SmallFields
+pub mod TwoDigits

@@ -11,10 +11,10 @@ use Rattle.calendar.specs.ClosedForms.{monthOfDay, yearOfMonth, monthNumber, le
 use Rattle.calendar.proofs.EachSystem.{consistent}
 use Rattle.calendar.proofs.Reckoned.{reckoned}
 use Rattle.calendar.proofs.Spans.{within}
-use Rattle.calendar.proofs.Months.{month-unique, year-unique}
+use Rattle.calendar.proofs.EveryCalendar.{month-unique, year-unique}
 use Rattle.calendar.proofs.Numbers.{number-unique, mark-unique}
 use Rattle.citation.specs.Record.{recordOf}
-use Rattle.citation.specs.Named.{OnDate}
+use Rattle.citation.specs.DayCited.{OnDate}
 
 module _ (system : ℕ) where
   abbrev c : Constants
@@ -39,9 +39,9 @@ module _ (system : ℕ) where
       let in-month : InMonth c k (r + c .anchor) = (omega (arith, d .placed, d .day-is), omega (arith, d .placed, d .day-is)) in
       let e : k ≡ monthOfDay c (r + c .anchor) = month-unique K k (r + c .anchor) (in-month .0) (in-month .1) in
       record {
-        year-is = year-unique K (yearsElapsed c year) k (within c ok (yearsElapsed c year) k (d .named .in-year)) ∙ ap (yearOfMonth c) e;
-        month-is = number-unique c ok (d .named .bears) ∙ ap (monthNumber c) e;
-        leap-is = mark-unique c ok (d .named .marked) ∙ ap (leapMark c) e;
+        year-is = year-unique K (yearsElapsed c year) k (within c ok (yearsElapsed c year) k (d .numbered .in-year)) ∙ ap (yearOfMonth c) e;
+        month-is = number-unique c ok (d .numbered .bears) ∙ ap (monthNumber c) e;
+        leap-is = mark-unique c ok (d .numbered .marked) ∙ ap (leapMark c) e;
         day-is = omega (arith, d .placed, d .day-is, ap (monthHead c) e);
       }
 

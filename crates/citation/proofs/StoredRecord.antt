@@ -7,15 +7,15 @@ use native.Mathlib.Omega.{arith}
 use Rattle.calendar.specs.declared.data.Constants.{Constants}
 use Rattle.calendar.specs.Consistent.{Consistent}
 use Rattle.calendar.specs.Systems.{constantsOf, yearsElapsed}
-use Rattle.calendar.specs.Year.{MonthNamed}
+use Rattle.calendar.specs.Year.{MonthNumbered}
 use Rattle.calendar.proofs.EachSystem.{consistent}
 use Rattle.calendar.proofs.Reckoned.{reckoned}
 use Rattle.calendar.proofs.Laws.{number-inside, mark-inside}
 use Rattle.reckoning.specs.Scope.{YearInScope}
 use Rattle.citation.specs.Record.{Bytes, yearField, recordOf}
-use Rattle.citation.specs.Named.{elapsedIn, CitedMonth, Names, OnDate}
-use Rattle.citation.specs.Refused.{TooShort, WrongKind, WrongLength, WrongSystem, WrongYear, WrongMonth}
-use Rattle.citation.specs.Refused.{Placed, NotPlaced, Accepted}
+use Rattle.citation.specs.DayCited.{elapsedIn, CitedMonth, NamesDay, OnDate}
+use Rattle.citation.specs.CitationRefusals.{TooShort, WrongKind, WrongLength, WrongSystem, WrongYear, WrongMonth}
+use Rattle.citation.specs.CitationRefusals.{Placed, NotPlaced, Accepted}
 
 -- Bytes, one by one.
 abbrev EachByte : List ℕ → Type 0
@@ -42,7 +42,7 @@ module _ (system r year month leap day : ℕ) (d : OnDate system r year month le
   year-read = omega arith
 
   month-read : CitedMonth rec (d .k)
-  month-read = subst (λ y. MonthNamed c (yearsElapsed c y) month leap (d .k)) (sym year-read) (d .named)
+  month-read = subst (λ y. MonthNumbered c (yearsElapsed c y) month leap (d .k)) (sym year-read) (d .numbered)
 
   long-enough : TooShort rec → ⊥
   long-enough w = omega arith
@@ -66,7 +66,7 @@ module _ (system r year month leap day : ℕ) (d : OnDate system r year month le
       (λ v.
       ⊎-elim
       (λ u. u (mark-inside c ok (elapsedIn rec) month leap (d .k) month-read))
-      (λ u. u .1 (record { month = d .k; is-leap = subst (λ x. MonthNamed c (elapsedIn rec) month x (d .k)) (u .0) month-read }))
+      (λ u. u .1 (record { month = d .k; is-leap = subst (λ x. MonthNumbered c (elapsedIn rec) month x (d .k)) (u .0) month-read }))
       v)
       (w .1)
 
@@ -80,8 +80,8 @@ module _ (system r year month leap day : ℕ) (d : OnDate system r year month le
         inr (kind-right, inr (length-right, inr (system-right, inr (year-right, inr (month-right, inr (place-right, refl)))))),
       )
 
-  pub record-names : Names rec r
-  record-names = Names.by-day refl (d .k) month-read (d .day-is)
+  pub record-names : NamesDay rec r
+  record-names = NamesDay.by-day refl (d .k) month-read (d .day-is)
 
   pub record-bytes : Bytes rec
   record-bytes =

@@ -5,6 +5,7 @@ use mathlib.Core.List.{List, _++_}
 use native.Mathlib.Omega.{arith}
 use lib.ListN.{length, drop}
 use borrow.Author.Tests.{eq-eqb, ne-eqb, lt-ltb, le-ltb}
+use Rattle.reckoning.specs.RefusalNumbers.{OUTPUT}
 use Rattle.citation.specs.declared.judge.Judgement.{Judgement}
 use Rattle.citation.specs.Store.{judgeOf, refusalOf, answerOf, storedInto}
 
@@ -17,9 +18,9 @@ module _ (s : List ℕ) (room : ℕ) (j : Judgement) (e : j ≡ judgeOf s) where
   unfolding refusalOf
   refusal-kept h = rw (← refusal-is) (simp (ne-eqb (j .refusal) 0 h))
 
-  pub refusal-eight : j .refusal ≡ 0 → room < 10 → refusalOf s room ≡ 8
+  pub refusal-output : j .refusal ≡ 0 → room < 10 → refusalOf s room ≡ OUTPUT
   unfolding refusalOf
-  refusal-eight h l = rw (← refusal-is) (simp (eq-eqb (j .refusal) 0 h, lt-ltb room 10 l))
+  refusal-output h l = rw (← refusal-is) (simp (eq-eqb (j .refusal) 0 h, lt-ltb room 10 l))
 
   pub refusal-none : j .refusal ≡ 0 → 10 ≤ room → refusalOf s room ≡ 0
   unfolding refusalOf

@@ -1,5 +1,5 @@
 -- What the parts of the judgement are handed.
-use Prim.Native.Nat.{ℕ, _≤_, _<_}
+use Prim.Native.Nat.{ℕ, _+_, _-_, _≤_, _<_}
 use mathlib.Core.Path.{_≡_}
 use mathlib.Core.List.{List}
 use lib.ListN.{length}
@@ -14,9 +14,9 @@ pub record Fields (system year month leap day : ℕ) : Type 0 where
   pub leap-byte : leap < 256
   pub day-byte : day < 256
 
--- A record of a kind, at least nine bytes long, and ten where the kind is 1 or 2.
+-- A record of a kind, at least nine bytes long, and ten where the kind is 1 or 2, so that `kind - 2` is 0.
 pub record Whole (s : List ℕ) (kind : ℕ) : Type 0 where
   pub is-kind : kind ≡ kindOf s
   pub one-to-four : Inside 1 4 kind
   pub nine : 9 ≤ length s
-  pub ten : kind ≤ 2 → 10 ≤ length s
+  pub ten : 10 ≤ length s + (kind - 2)

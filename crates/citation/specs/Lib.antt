@@ -2,13 +2,13 @@
 -- The record formats of the four kinds.
 pub mod Record
 -- The month of a citation, and the day that it names, by the reckoning.
-pub mod Named
+pub mod DayCited
 -- When each numbered refusal applies, in the table's order.
-pub mod Refused
+pub mod CitationRefusals
 -- What the storing step answers and writes, for every input and output.
 pub mod Store
 -- What the demands ask for, in words.
-pub mod Demanded
+pub mod DemandWords
 -- What the parts of the judgement are handed.
 pub mod JudgeInputs
 -- The month and the day of a stored record have two digits at most.

@@ -1,19 +1,14 @@
 -- The record formats of the four kinds: paper 01, "Citation records". Numbers are little-endian.
-use Prim.Native.Nat.{ℕ, _+_, _*_, _/_, _%_, _<_}
+use Prim.Native.Nat.{ℕ, _/_, _%_, _<_}
 use mathlib.Core.Bool.{cond}
 use mathlib.Core.List.{List, [], _∷_}
 use lib.Dec.{leb}
 use lib.ListN.{getD}
+use Rattle.little_endian.specs.Number.{le16, le32}
 
--- Numbers of one, two and four bytes at place i.
+-- The byte at place i.
 abbrev pub byte : List ℕ → ℕ → ℕ
 byte s i = getD s i 0
-
-abbrev pub le16 : List ℕ → ℕ → ℕ
-le16 s i = byte s i + 256 * byte s (i + 1)
-
-abbrev pub le32 : List ℕ → ℕ → ℕ
-le32 s i = le16 s i + 65_536 * le16 s (i + 2)
 
 -- Every element of a list is a byte.
 abbrev pub Bytes : List ℕ → Type 0
@@ -21,10 +16,10 @@ Bytes s = (i : ℕ) → byte s i < 256
 
 -- Bytes 0 and 1: the length of the whole record. Bytes 2 and 3: the kind. Byte 4: the system.
 abbrev pub lengthField : List ℕ → ℕ
-lengthField s = le16 s 0
+lengthField s = le16 (byte s 0) (byte s 1)
 
 abbrev pub kindOf : List ℕ → ℕ
-kindOf s = le16 s 2
+kindOf s = le16 (byte s 2) (byte s 3)
 
 abbrev pub systemOf : List ℕ → ℕ
 systemOf s = byte s 4
@@ -35,7 +30,7 @@ kindLength kind = cond (leb kind 2) 10 9
 
 -- Kinds 1, 2 and 3: the year after byte 4.
 abbrev pub yearField : List ℕ → ℕ
-yearField s = le16 s 5
+yearField s = le16 (byte s 5) (byte s 6)
 
 -- Kinds 1 and 2: then the month, the leap mark, and the day of the month (kind 1) or the name (kind 2).
 abbrev pub monthField : List ℕ → ℕ
@@ -52,11 +47,11 @@ nameField s = byte s 9
 
 -- Kind 3: then the ordinal.
 abbrev pub ordinalField : List ℕ → ℕ
-ordinalField s = le16 s 7
+ordinalField s = le16 (byte s 7) (byte s 8)
 
 -- Kind 4: the register day after byte 4.
 abbrev pub registerDayField : List ℕ → ℕ
-registerDayField s = le32 s 5
+registerDayField s = le32 (byte s 5) (byte s 6) (byte s 7) (byte s 8)
 
 -- The kind 1 record of a date.
 abbrev pub recordOf : ℕ → ℕ → ℕ → ℕ → ℕ → List ℕ

@@ -1,11 +1,12 @@
 -- What the storing step answers and writes, for every input and output.
 use Prim.Native.Nat.{ℕ, _+_, _*_, _-_, _^_, _%_}
-use mathlib.Core.Bool.{Bool, cond, not, _&&_, _||_}
+use mathlib.Core.Bool.{Bool, cond, _&&_, _||_}
 use mathlib.Core.List.{List, _++_}
 use lib.Dec.{ltb, leb, eqb}
 use lib.ListN.{length, replicate, drop}
-use Rattle.calendar.specs.Name.{nameOf}
-use Rattle.reckoning.specs.Refusal.{outside}
+use Rattle.calendar.specs.SixtyDayName.{nameOf}
+use Rattle.reckoning.specs.ComputedRefusals.{outside}
+use Rattle.reckoning.specs.RefusalNumbers.{SHORT, KIND, LENGTH, DAY, OUTPUT}
 use Rattle.reckoning.specs.Requests.{asRegisterDay, daysOf, monthOf, dateOf}
 use Rattle.reckoning.specs.declared.data.Days.{Days}
 use Rattle.reckoning.specs.declared.data.Month.{Month}
@@ -25,9 +26,9 @@ accept r system year month leap day = record { refusal = 0; day = asRegisterDay 
 abbrev pub unlessRefused : ℕ → Judgement → Judgement
 unlessRefused refusal j = cond (eqb refusal 0) j (refuse refusal)
 
--- Refused 7 where the place is wrong, and judged otherwise.
+-- Refused DAY where the place is wrong, and judged otherwise.
 abbrev pub unlessWrong : Bool → Judgement → Judgement
-unlessWrong wrong j = cond wrong (refuse 7) j
+unlessWrong wrong j = cond wrong (refuse DAY) j
 
 -- Kind 4: the register day, stored by its date.
 abbrev pub judgeDate : Date → ℕ → ℕ → Judgement
@@ -68,9 +69,9 @@ judgeNameInMonth m system year month leap name =
 unfoldable pub judgeName : ℕ → ℕ → ℕ → ℕ → ℕ → Judgement
 judgeName system year month leap name = judgeNameInMonth (monthOf system year month leap) system year month leap name
 
--- The length field or the input's length is not the kind's.
-abbrev pub lengthWrong : List ℕ → Bool
-lengthWrong s = not (eqb (lengthField s) (kindLength (kindOf s)) && eqb (length s) (lengthField s))
+-- The length field is the kind's length, and the input's own length is the field's.
+unfoldable pub lengthRight : List ℕ → Bool
+lengthRight s = eqb (lengthField s) (kindLength (kindOf s)) && eqb (length s) (lengthField s)
 
 unfoldable pub judgeKind : List ℕ → Judgement
 judgeKind s =
@@ -85,16 +86,16 @@ judgeKind s =
 unfoldable pub judgeOf : List ℕ → Judgement
 judgeOf s =
     cond (ltb (length s) 4)
-    (refuse 1)
+    (refuse SHORT)
     (cond (outside 1 4 (kindOf s))
-    (refuse 2)
-    (cond (lengthWrong s)
-    (refuse 3)
-    (judgeKind s)))
+    (refuse KIND)
+    (cond (lengthRight s)
+    (judgeKind s)
+    (refuse LENGTH)))
 
--- The refusal of a storing: the citation's own, and then 8 where the output has fewer than 10 bytes.
+-- The refusal of a storing: the citation's own, and then OUTPUT where the output has fewer than 10 bytes.
 unfoldable pub refusalOf : List ℕ → ℕ → ℕ
-refusalOf s room = cond (eqb ((judgeOf s) .refusal) 0) (cond (ltb room 10) 8 0) ((judgeOf s) .refusal)
+refusalOf s room = cond (eqb ((judgeOf s) .refusal) 0) (cond (ltb room 10) OUTPUT 0) ((judgeOf s) .refusal)
 
 -- The answer: the register day, 0 where refused, plus 2^32 times the refusal number.
 unfoldable pub answerOf : List ℕ → ℕ → ℕ

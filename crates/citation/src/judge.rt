@@ -1,16 +1,21 @@
 // The judgement of a citation: its refusal, or the day that it names and its stored record.
 ghost use mathlib.Core.Path.{_≡_};
-ghost use Prim.Native.Nat.{_<_};
-ghost use Rattle.citation.specs.Store.{refuse, accept, judgeRegisterDay, judgeOrdinal, judgeDay, judgeName, judgeKind, judgeOf};
-ghost use Rattle.citation.specs.Record.{kindLength};
+ghost use Prim.Native.Nat.{_≤_, _<_};
+ghost use lib.ListN.{length};
+ghost use Rattle.citation.specs.Store.{refuse, accept, judgeRegisterDay, judgeOrdinal, judgeDay, judgeName, lengthRight, judgeKind, judgeOf};
+ghost use Rattle.citation.specs.Record.{kindOf, kindLength};
 ghost use Rattle.citation.specs.JudgeInputs.{Fields, Whole};
-use crate::reading::byte;
-use crate::reading::le16;
-use crate::reading::le32;
 use calendar::data::DayName;
 use calendar::data::Ordinal;
 use calendar::data::RegisterDay;
+use little_endian::le16;
+use little_endian::le32;
+use little_endian::wide;
 use reckoning::refusal::outside;
+use reckoning::refusal_numbers::DAY;
+use reckoning::refusal_numbers::KIND;
+use reckoning::refusal_numbers::LENGTH;
+use reckoning::refusal_numbers::SHORT;
 
 // `refusal` is 0 when the citation is accepted; refused, day and record are zeros.
 pub struct Judgement {
@@ -80,7 +85,7 @@ fn judge_ordinal(system: u32, year: u32, ordinal: Ordinal) -> Judgement
         return refuse(y.refusal);
     }
     if outside(1, y.length as u32, ordinal.0 as u32) {
-        return refuse(7);
+        return refuse(DAY);
     }
     judge_register_day(system, RegisterDay(y.head.0 + ordinal.0 as u32 - 1))
 }
@@ -95,7 +100,7 @@ fn judge_day(system: u32, year: u32, month: u32, leap: u32, day: u32) -> Judgeme
         return refuse(m.refusal);
     }
     if outside(1, m.length as u32, day) {
-        return refuse(7);
+        return refuse(DAY);
     }
     accept(m.head.0 + day - 1, system, year, month, leap, day)
 }
@@ -110,11 +115,11 @@ fn judge_name(system: u32, year: u32, month: u32, leap: u32, name: DayName) -> J
         return refuse(m.refusal);
     }
     if 59 < name.0 {
-        return refuse(7);
+        return refuse(DAY);
     }
     let days = (name.0 as u32 + 60 - reckoning::day_name(m.head).0 as u32) % 60;
     if m.length as u32 <= days {
-        return refuse(7);
+        return refuse(DAY);
     }
     accept(m.head.0 + days, system, year, month, leap, days + 1)
 }
@@ -124,38 +129,20 @@ fn judge_kind(s: &[u8], kind: u32) -> Judgement
     requires { ⌜ Whole (now s) kind ⌝ }
     ensures { λ r. ⌜ r ≡ judgeKind (now (s .entry)) ⌝ }
 {
-    let system = byte(s, 4);
+    let system = wide(s[4]);
     if kind == 1 {
-        return judge_day(system, le16(s, 5), byte(s, 7), byte(s, 8), byte(s, 9));
+        let year = le16(s[5], s[6]);
+        return judge_day(system, year, wide(s[7]), wide(s[8]), wide(s[9]));
     }
     if kind == 2 {
-        return judge_name(system, le16(s, 5), byte(s, 7), byte(s, 8), DayName(s[9]));
+        let year = le16(s[5], s[6]);
+        return judge_name(system, year, wide(s[7]), wide(s[8]), DayName(s[9]));
     }
     if kind == 3 {
-        return judge_ordinal(system, le16(s, 5), Ordinal(le16(s, 7) as u16));
+        let year = le16(s[5], s[6]);
+        return judge_ordinal(system, year, Ordinal(le16(s[7], s[8]) as u16));
     }
-    judge_register_day(system, RegisterDay(le32(s, 5)))
-}
-
-// Any bytes.
-pub fn judge(s: &[u8]) -> Judgement
-    ensures { λ r. ⌜ r ≡ judgeOf (now (s .entry)) ⌝ }
-{
-    if s.len() < 4 {
-        return refuse(1);
-    }
-    let k = le16(s, 2);
-    if outside(1, 4, k) {
-        return refuse(2);
-    }
-    let length = kind_length(k);
-    if le16(s, 0) != length {
-        return refuse(3);
-    }
-    if s.len() != length as usize {
-        return refuse(3);
-    }
-    judge_kind(s, k)
+    judge_register_day(system, RegisterDay(le32(s[5], s[6], s[7], s[8])))
 }
 
 // Bytes in a record of a kind.
@@ -163,4 +150,30 @@ fn kind_length(kind: u32) -> u32
     ensures { λ r. ⌜ r ≡ kindLength kind ⌝ }
 {
     if kind <= 2 { 10 } else { 9 }
+}
+
+// The length field and the length of the input are those of the kind.
+fn length_right(s: &[u8], kind: u32) -> bool
+    requires { ⌜ (kind ≡ kindOf (now s)) × (4 ≤ length (now s)) ⌝ }
+    ensures { λ r. ⌜ r ≡ lengthRight (now (s .entry)) ⌝ }
+{
+    let length = kind_length(kind);
+    le16(s[0], s[1]) == length && s.len() == length as usize
+}
+
+// Any bytes.
+pub fn judge(s: &[u8]) -> Judgement
+    ensures { λ r. ⌜ r ≡ judgeOf (now (s .entry)) ⌝ }
+{
+    if s.len() < 4 {
+        return refuse(SHORT);
+    }
+    let kind = le16(s[2], s[3]);
+    if outside(1, 4, kind) {
+        return refuse(KIND);
+    }
+    if length_right(s, kind) {
+        return judge_kind(s, kind);
+    }
+    refuse(LENGTH)
 }

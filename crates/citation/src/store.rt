@@ -5,6 +5,10 @@ ghost use mathlib.Core.List.{_++_};
 ghost use lib.ListN.{length, drop};
 ghost use Rattle.citation.specs.Store.{answerOf, storedInto};
 use crate::judge::judge;
+use reckoning::refusal_numbers::OUTPUT;
+
+// 2^32: a refusal number stands above the 32 bits of a day.
+const REFUSAL_UNIT: u64 = 4_294_967_296;
 
 // The ten bytes of a record at the front of an output.
 fn put(output: &mut [u8], stored: [u8; 10])
@@ -33,10 +37,10 @@ pub extern "C" fn chiselbrow_store(input: &[u8], output: &mut [u8]) -> u64
     let j = judge(input);
     let refusal = j.refusal as u64;
     if refusal != 0 {
-        return refusal * 4_294_967_296;
+        return refusal * REFUSAL_UNIT;
     }
     if output.len() < 10 {
-        return 8 * 4_294_967_296;
+        return OUTPUT as u64 * REFUSAL_UNIT;
     }
     let stored = j.stored;
     put(output, stored);

@@ -11,8 +11,8 @@ use lib.Seq.{drop-drop}
 use borrow.Author.Tests.{le-leb, leb-false}
 use Rattle.calendar.proofs.Cases.{by-bool}
 use Rattle.calendar.proofs.Rising.{by-order}
-use Rattle.reckoning.specs.Refusal.{outside}
-use Rattle.reckoning.proofs.Refusals.{inside-of}
+use Rattle.reckoning.specs.ComputedRefusals.{outside}
+use Rattle.reckoning.proofs.RefusalCases.{inside-of}
 use Rattle.citation.specs.Record.{lengthField}
 use Rattle.lines.specs.Line.{lineOf}
 use Rattle.lines.specs.Program.{misframed, framed, Framing, framing, linesOf, Portion, portionThen, portionOf}

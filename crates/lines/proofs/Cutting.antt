@@ -8,7 +8,7 @@ use lib.ListN.{length, take, drop, length-drop}
 use lib.Seq.{length-take-le}
 use borrow.Author.Tests.{le-leb, lt-leb, ne-eqb}
 use Rattle.calendar.proofs.Cases.{by-bool}
-use Rattle.reckoning.proofs.Refusals.{inside-of}
+use Rattle.reckoning.proofs.RefusalCases.{inside-of}
 use Rattle.citation.specs.Record.{lengthField}
 use Rattle.text.specs.Piece.{refusedLine}
 use Rattle.lines.specs.Line.{lineOf}

@@ -2,9 +2,9 @@
 use mathlib.Core.Path.{_≡_, refl}
 use mathlib.Core.List.{List, [], _∷_, _++_}
 use Prim.Native.Nat.{ℕ}
-use Rattle.reckoning.specs.Refusal.{yearRefusal}
+use Rattle.reckoning.specs.ComputedRefusals.{yearRefusal}
 use Rattle.reckoning.specs.Requests.{daysOf, monthOf, monthIn, dateOf, dateIn}
-use Rattle.citation.specs.Store.{judgeRegisterDay, judgeOrdinal, judgeDay, judgeName, judgeKind, judgeOf}
+use Rattle.citation.specs.Store.{judgeRegisterDay, judgeOrdinal, judgeDay, judgeName, judgeKind, lengthRight, judgeOf}
 use Rattle.text.specs.Decimal.{decimal}
 use Rattle.text.specs.Piece.{field, fields, year, month}
 use Rattle.lines.specs.Line.{lineOf, storedLine}
@@ -28,5 +28,5 @@ last-line = 114 ∷ 101 ∷ 102 ∷ 117 ∷ 115 ∷ 101 ∷ 100 ∷ 32 ∷ 49 �
 
 pub shown-run : outputOf (case-9 ++ 0x00 ∷ []) ≡ day-line ++ day-line ++ day-line ++ day-line ++ last-line
 unfolding framingWithin linesOf lineOf storedLine year month field fields decimal
-    judgeOf judgeKind judgeDay judgeName judgeOrdinal judgeRegisterDay yearRefusal daysOf monthOf monthIn dateOf dateIn
+    judgeOf lengthRight judgeKind judgeDay judgeName judgeOrdinal judgeRegisterDay yearRefusal daysOf monthOf monthIn dateOf dateIn
 shown-run = refl

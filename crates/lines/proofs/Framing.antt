@@ -9,8 +9,8 @@ use lib.ListN.{length, getD, take, drop, length-append, length-drop, List·getD-
 use lib.Seq.{getD-drop, take-append-le, drop-append-le}
 use borrow.Author.Tests.{le-leb, lt-leb, leb-true, not-true}
 use Rattle.calendar.proofs.Cases.{both}
-use Rattle.reckoning.specs.Refusal.{outside}
-use Rattle.reckoning.proofs.Refusals.{inside-of}
+use Rattle.reckoning.specs.ComputedRefusals.{outside}
+use Rattle.reckoning.proofs.RefusalCases.{inside-of}
 use Rattle.little_endian.specs.Number.{le16}
 use Rattle.citation.specs.Record.{lengthField}
 use Rattle.lines.specs.Program.{framed, nextOf}

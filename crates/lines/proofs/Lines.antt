@@ -11,7 +11,7 @@ use Rattle.citation.specs.declared.judge.Judgement.{Judgement}
 use Rattle.citation.specs.Store.{judgeOf}
 use Rattle.calendar.proofs.Cases.{by-bool}
 use Rattle.calendar.specs.declared.data.DayName.{DayName}
-use Rattle.calendar.specs.Name.{nameOf}
+use Rattle.calendar.specs.SixtyDayName.{nameOf}
 use Rattle.citation.specs.Record.{systemOf, yearField, monthField, leapField, dayField}
 use Rattle.text.specs.Piece.{year, month, line, refusedLine}
 use Rattle.text.specs.Wrote.{Wrote}

@@ -3,16 +3,16 @@ use Prim.Native.Nat.{ℕ, _+_, _*_, _/_, _%_, _<_}
 use mathlib.Core.Path.{_≡_, refl, subst, ap, ap₂, sym, _∙_}
 use mathlib.Core.List.{List}
 use native.Mathlib.Omega.{arith}
-use Rattle.reckoning.specs.Rows.{FirstOf}
+use Rattle.reckoning.specs.WordedRefusals.{FirstOf}
 use Rattle.citation.specs.Record.{systemOf, recordOf}
-use Rattle.citation.specs.Named.{Names, OnDate}
-use Rattle.citation.specs.Refused.{citationRows, Accepted}
+use Rattle.citation.specs.DayCited.{NamesDayDay, OnDate}
+use Rattle.citation.specs.CitationRefusals.{citationRows, Accepted}
 use Rattle.citation.specs.Store.{judgeOf}
-use Rattle.citation.proofs.Rows.{first-unique}
+use Rattle.citation.proofs.RowLaws.{first-unique}
 use Rattle.citation.proofs.OneDay.{names-unique}
 use Rattle.citation.proofs.OneDate.{record-unique}
-use Rattle.citation.proofs.Judged.{Judged}
-use Rattle.citation.proofs.Refusals.{judged}
+use Rattle.citation.proofs.JudgedByKind.{Judged}
+use Rattle.citation.proofs.FirstRefusal.{judged}
 use Rattle.citation.proofs.Canonical.{passed}
 use Rattle.text.specs.Piece.{refusedLine}
 use Rattle.lines.specs.Line.{dayLine, storedLine, lineOf}
@@ -24,7 +24,7 @@ unfolding storedLine
 told-date system year month leap day r =
     let whole : year % 256 + 256 * (year / 256) ≡ year = omega arith in ap (λ y. dayLine system y month leap day r) whole
 
-pub line-of-day : (s : List ℕ) → Accepted s → (r year month leap day : ℕ) → Names s r → OnDate (systemOf s) r year month leap day
+pub line-of-day : (s : List ℕ) → Accepted s → (r year month leap day : ℕ) → NamesDay s r → OnDate (systemOf s) r year month leap day
     → lineOf s ≡ dayLine (systemOf s) year month leap day r
 line-of-day s a r year month leap day names date =
     let j = judgeOf s in

@@ -3,7 +3,7 @@ use Prim.Native.Nat.{ℕ}
 use mathlib.Core.Bool.{cond}
 use mathlib.Core.List.{List, [], _∷_, _++_}
 use lib.Dec.{eqb}
-use Rattle.calendar.specs.Name.{nameOf}
+use Rattle.calendar.specs.SixtyDayName.{nameOf}
 use Rattle.text.specs.Piece.{year, month, line, refusedLine}
 use Rattle.citation.specs.Record.{systemOf, yearField, monthField, leapField, dayField}
 use Rattle.citation.specs.Store.{judgeOf}

@@ -5,7 +5,7 @@ use mathlib.Core.Bool.{Bool, cond, not, _&&_}
 use mathlib.Core.List.{List, [], _∷_, _++_}
 use lib.Dec.{leb, eqb}
 use lib.ListN.{length, take, drop}
-use Rattle.reckoning.specs.Refusal.{outside}
+use Rattle.reckoning.specs.ComputedRefusals.{outside}
 use Rattle.citation.specs.Record.{lengthField}
 use Rattle.lines.specs.declared.convert.Progress.{Progress}
 use Rattle.text.specs.Piece.{refusedLine}

@@ -1,25 +1,25 @@
 -- Proofs that serve several functions, and theorems on what the requests answer.
 -- Refusals: which rule applies, and what an accepted request has.
-pub mod Refusals
+pub mod RefusalCases
 -- Years in scope keep the bounds.
-pub mod Scope
+pub mod ScopeInRegister
 -- How an answer follows from what was asked.
-pub mod Answers
+pub mod AnswerUnless
 -- Direct requests are refused by their table.
-pub mod Blanks
+pub mod RefusedRequests
 -- What the laws say of a year within the register.
-pub mod InReach
+pub mod RegisterLaws
 -- The month of a year with a number and a leap mark.
-pub mod Cited
+pub mod MonthRequest
 -- The date of a register day.
-pub mod Dated
+pub mod DateRequest
 -- The value that `year` returns holds the months of the reckoning.
-pub mod MonthsHeld
+pub mod MonthsRight
 -- Filling a list, and reading it.
-pub mod Fill
+pub mod FilledLaws
 -- The other answers hold what the reckoning says.
-pub mod AnswersHeld
+pub mod AnswersRight
 -- How the other requests end.
-pub mod Outcomes
+pub mod RequestsEnd
 -- Answers leave room for the days that follow a head.
-pub mod Fits
+pub mod AnswersFit

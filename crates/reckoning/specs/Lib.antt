@@ -1,10 +1,12 @@
 -- What the requests promise, for every input.
 -- What is in scope: systems, years, months and days.
 pub mod Scope
--- Numbered refusals: the first rule that applies.
-pub mod Refusal
--- Tables of refusals in words.
-pub mod Rows
+-- The numbers of the refusals.
+pub mod RefusalNumbers
+-- Tables of refusals in words: the first row that applies.
+pub mod WordedRefusals
+-- Refusals as they are computed: the first rule that applies.
+pub mod ComputedRefusals
 -- What a request by system and year stands on.
 pub mod Asked
 -- What each request answers.
@@ -12,10 +14,10 @@ pub mod Requests
 -- What the value of a year's months holds, in the paper's words.
 pub mod YearValue
 -- What the answers for a solstice, a qi and a day sheet hold.
-pub mod Held
+pub mod AnswerMeanings
 -- How the other requests can end.
 pub mod Outcomes
 -- Lists filled from their first place on.
 pub mod Filled
--- Bounds under which the closed forms stay within 64 bits.
-pub mod Room
+-- Bounds of machine words: constants, days, months and years whose numbers fit.
+pub mod WordBounds

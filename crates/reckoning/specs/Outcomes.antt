@@ -4,11 +4,12 @@ use mathlib.Core.Path.{_≡_}
 use Rattle.calendar.specs.Inside.{Inside}
 use Rattle.calendar.specs.Systems.{constantsOf, yearsElapsed}
 use Rattle.calendar.specs.Month.{monthHead, InMonth, monthLength}
-use Rattle.calendar.specs.Year.{Span, yearHead, yearLength, MonthNamed}
+use Rattle.calendar.specs.Year.{Span, yearHead, yearLength, MonthNumbered}
 use Rattle.reckoning.specs.declared.data.Days.{Days}
 use Rattle.reckoning.specs.declared.data.Month.{Month}
 use Rattle.reckoning.specs.declared.data.Date.{Date}
 use Rattle.reckoning.specs.Scope.{SystemInScope, YearInScope, InScope, NoSuchMonth, DayInScope}
+use Rattle.reckoning.specs.RefusalNumbers.{SYSTEM, YEAR, MONTH, DAY}
 use Rattle.reckoning.specs.Requests.{noDays, noMonth, noDate}
 
 -- The days of a year, answered: its head and its length.
@@ -19,10 +20,10 @@ pub record DaysFound (system year : ℕ) (v : Days) : Type 0 where
   pub head-is : v .head .0 + constantsOf system .anchor ≡ yearHead span
   pub length-is : v .length ≡ yearLength span
 
--- Refused 4, then 5; or answered.
+-- Refused SYSTEM, then YEAR; or answered.
 pub data DaysOutcome (system year : ℕ) (v : Days) : Type 0 where
-  system-refused : (SystemInScope system → ⊥) → v ≡ noDays 4 → DaysOutcome system year v
-  year-refused : SystemInScope system → (YearInScope year → ⊥) → v ≡ noDays 5 → DaysOutcome system year v
+  system-refused : (SystemInScope system → ⊥) → v ≡ noDays SYSTEM → DaysOutcome system year v
+  year-refused : SystemInScope system → (YearInScope year → ⊥) → v ≡ noDays YEAR → DaysOutcome system year v
   found : DaysFound system year v → DaysOutcome system year v
 
 -- One month, answered: its head and its length.
@@ -31,18 +32,18 @@ pub record MonthFound (system year number leap : ℕ) (v : Month) : Type 0 where
   pub number-inside : Inside 1 12 number
   pub mark-inside : Inside 0 1 leap
   pub k : ℕ
-  pub named : MonthNamed (constantsOf system) (yearsElapsed (constantsOf system) year) number leap k
+  pub numbered : MonthNumbered (constantsOf system) (yearsElapsed (constantsOf system) year) number leap k
   pub not-refused : v .refusal ≡ 0
   pub head-is : v .head .0 + constantsOf system .anchor ≡ monthHead (constantsOf system) k
   pub length-is : v .length ≡ monthLength (constantsOf system) k
 
--- Refused 4, then 5, then 6; or answered.
+-- Refused SYSTEM, then YEAR, then MONTH; or answered.
 pub data MonthOutcome (system year number leap : ℕ) (v : Month) : Type 0 where
-  system-refused : (SystemInScope system → ⊥) → v ≡ noMonth 4 → MonthOutcome system year number leap v
-  year-refused : SystemInScope system → (YearInScope year → ⊥) → v ≡ noMonth 5 → MonthOutcome system year number leap v
+  system-refused : (SystemInScope system → ⊥) → v ≡ noMonth SYSTEM → MonthOutcome system year number leap v
+  year-refused : SystemInScope system → (YearInScope year → ⊥) → v ≡ noMonth YEAR → MonthOutcome system year number leap v
   month-refused : InScope system year
       → NoSuchMonth (constantsOf system) (yearsElapsed (constantsOf system) year) number leap
-      → v ≡ noMonth 6
+      → v ≡ noMonth MONTH
       → MonthOutcome system year number leap v
   found : MonthFound system year number leap v → MonthOutcome system year number leap v
 
@@ -52,13 +53,13 @@ pub record DateFound (system r : ℕ) (v : Date) : Type 0 where
   pub in-scope : InScope system (v .year)
   pub day-in-scope : DayInScope system r
   pub k : ℕ
-  pub named : MonthNamed (constantsOf system) (yearsElapsed (constantsOf system) (v .year)) (v .month) (v .leap) k
+  pub numbered : MonthNumbered (constantsOf system) (yearsElapsed (constantsOf system) (v .year)) (v .month) (v .leap) k
   pub not-refused : v .refusal ≡ 0
   pub in-month : InMonth (constantsOf system) k (r + constantsOf system .anchor)
   pub day-is : v .day ≡ r + constantsOf system .anchor - monthHead (constantsOf system) k + 1
 
--- Refused 4, then 7; or answered.
+-- Refused SYSTEM, then DAY; or answered.
 pub data DateOutcome (system r : ℕ) (v : Date) : Type 0 where
-  system-refused : (SystemInScope system → ⊥) → v ≡ noDate 4 → DateOutcome system r v
-  day-refused : SystemInScope system → (DayInScope system r → ⊥) → v ≡ noDate 7 → DateOutcome system r v
+  system-refused : (SystemInScope system → ⊥) → v ≡ noDate SYSTEM → DateOutcome system r v
+  day-refused : SystemInScope system → (DayInScope system r → ⊥) → v ≡ noDate DAY → DateOutcome system r v
   found : DateFound system r v → DateOutcome system r v

@@ -7,7 +7,7 @@ use lib.ListN.{replicate}
 use Rattle.calendar.specs.declared.data.Constants.{Constants}
 use Rattle.calendar.specs.declared.data.RegisterDay.{RegisterDay}
 use Rattle.calendar.specs.Systems.{constantsOf, yearsElapsed, registerDay}
-use Rattle.calendar.specs.Name.{nameOf}
+use Rattle.calendar.specs.SixtyDayName.{nameOf}
 use Rattle.calendar.specs.Qi.{solsticeDay, solsticeRemainder, qi, dayOf, partsOf, unitsOf}
 use Rattle.calendar.specs.Month.{monthHead}
 use Rattle.calendar.specs.ClosedForms.{monthOfDay, firstMonth, headOfYear, yearOfMonth, monthNumber, leapMark, monthCited}
@@ -18,7 +18,8 @@ use Rattle.reckoning.specs.declared.data.Sheet.{Sheet}
 use Rattle.reckoning.specs.declared.data.Month.{Month}
 use Rattle.reckoning.specs.declared.data.Days.{Days}
 use Rattle.reckoning.specs.declared.data.Date.{Date}
-use Rattle.reckoning.specs.Refusal.{outside, yearRefusal, qiRefusal, monthWrong, dayWrong}
+use Rattle.reckoning.specs.ComputedRefusals.{outside, yearRefusal, qiRefusal, monthWrong, dayWrong}
+use Rattle.reckoning.specs.RefusalNumbers.{SYSTEM, MONTH, DAY}
 use Rattle.reckoning.specs.Filled.{filled}
 
 abbrev pub asRegisterDay : ℕ → RegisterDay
@@ -120,7 +121,7 @@ noDays refusal = record { refusal = refusal; head = asRegisterDay 0; length = 0 
 unfoldable pub daysOf : ℕ → ℕ → Days
 daysOf system year = answerUnless (yearRefusal system year) system year daysIn noDays
 
--- The month of year n with a number and a leap mark; 6 where there is none. Refused: zeros.
+-- The month of year n with a number and a leap mark; MONTH where there is none. Refused: zeros.
 abbrev pub monthAt : Constants → ℕ → Month
 monthAt c k =
     record { refusal = 0; head = asRegisterDay (registerDay c (monthHead c k)); length = monthHead c (k + 1) - monthHead c k }
@@ -129,14 +130,14 @@ abbrev pub noMonth : ℕ → Month
 noMonth refusal = record { refusal = refusal; head = asRegisterDay 0; length = 0 }
 
 unfoldable pub monthIn : Constants → ℕ → ℕ → ℕ → Month
-monthIn c n number leap = cond (monthWrong c n number leap) (noMonth 6) (monthAt c (monthCited c n number leap))
+monthIn c n number leap = cond (monthWrong c n number leap) (noMonth MONTH) (monthAt c (monthCited c n number leap))
 
 unfoldable pub monthOf : ℕ → ℕ → ℕ → ℕ → Month
 monthOf system year number leap =
     answerUnless (yearRefusal system year) system year (λ c n. monthIn c n number leap) noMonth
 
--- The date of a register day: its year, its month's number and leap mark, its place in the month; 7 outside years 1 to
--- 3000. Refused: zeros.
+-- The date of a register day: its year, its month's number and leap mark, its place in the month; DAY outside years 1
+-- to 3000. Refused: zeros.
 abbrev pub dateAt : Constants → ℕ → Date
 dateAt c d =
     let k = monthOfDay c d in
@@ -152,7 +153,7 @@ abbrev pub noDate : ℕ → Date
 noDate refusal = record { refusal = refusal; year = 0; month = 0; leap = 0; day = 0 }
 
 unfoldable pub dateIn : Constants → ℕ → Date
-dateIn c r = cond (dayWrong c r) (noDate 7) (dateAt c (r + c .anchor))
+dateIn c r = cond (dayWrong c r) (noDate DAY) (dateAt c (r + c .anchor))
 
 unfoldable pub dateOf : ℕ → ℕ → Date
-dateOf system r = cond (outside 1 2 system) (noDate 4) (dateIn (constantsOf system) r)
+dateOf system r = cond (outside 1 2 system) (noDate SYSTEM) (dateIn (constantsOf system) r)

@@ -1,4 +1,5 @@
--- What is in scope, and so when refusals 4, 5 and 6 apply, and 7 to a register day: paper 01, "Numbered refusals".
+-- What is in scope, and so when refusals SYSTEM, YEAR and MONTH apply, and DAY to a register day: paper 01, "Numbered
+-- refusals".
 use Prim.Native.Nat.{ℕ, _+_, _≤_, _<_}
 use mathlib.Core.Path.{_≡_}
 use mathlib.Core.Logic.{_⊎_}
@@ -7,11 +8,11 @@ use Rattle.calendar.specs.Inside.{Inside}
 use Rattle.calendar.specs.Systems.{constantsOf, yearsElapsed}
 use Rattle.calendar.specs.Year.{Span, yearHead, HasLeap}
 
--- Refusal 4 is for any other system,
+-- Refusal SYSTEM is for any other system,
 abbrev pub SystemInScope : ℕ → Type 0
 SystemInScope system = Inside 1 2 system
 
--- and refusal 5 for any other year.
+-- and refusal YEAR for any other year.
 abbrev pub YearInScope : ℕ → Type 0
 YearInScope year = Inside 1 3000 year
 
@@ -20,12 +21,12 @@ pub record InScope (system year : ℕ) : Type 0 where
   pub system-inside : SystemInScope system
   pub year-inside : YearInScope year
 
--- Refusal 6: a number or leap mark that no month has, or a leap mark where year n has no leap month of that number.
+-- Refusal MONTH: a number or leap mark that no month has, or a leap mark where year n has no leap month of that number.
 abbrev pub NoSuchMonth : Constants → ℕ → ℕ → ℕ → Type 0
 NoSuchMonth c n number leap =
     (Inside 1 12 number → ⊥) ⊎ ((Inside 0 1 leap → ⊥) ⊎ ((leap ≡ 1) × (HasLeap c n number → ⊥)))
 
--- The register days of years 1 to 3000, by the heads of years 1 and 3001; refusal 7 is for any other.
+-- The register days of years 1 to 3000, by the heads of years 1 and 3001; refusal DAY is for any other.
 pub record DayInScope (system r : ℕ) : Type 0 where
   pub first : Span (constantsOf system) (yearsElapsed (constantsOf system) 1)
   pub past : Span (constantsOf system) (yearsElapsed (constantsOf system) 3001)

@@ -2,7 +2,7 @@
 ghost use mathlib.Core.Path.{_≡_};
 ghost use Rattle.calendar.specs.Systems.{constantsOf};
 ghost use Rattle.reckoning.specs.Asked.{askedOf};
-ghost use Rattle.reckoning.specs.Refusal.{yearRefusal, qiRefusal};
+ghost use Rattle.reckoning.specs.ComputedRefusals.{yearRefusal, qiRefusal};
 use crate::closed_forms::years_elapsed;
 use crate::refusal;
 use calendar::data::Constants;

@@ -5,13 +5,13 @@ ghost use Prim.Native.Nat.{_+_, _%_, _<_, _^_};
 ghost use Rattle.calendar.specs.Systems.{yearsElapsed, registerDay};
 ghost use Rattle.calendar.specs.Month.{monthHead, numberOf};
 ghost use Rattle.calendar.specs.ClosedForms.{monthOfDay, monthOfQi, qiOfMonth, firstMonth, headOfYear, monthNumber, leapMark};
-ghost use Rattle.reckoning.specs.Room.{Room, Registered};
+ghost use Rattle.reckoning.specs.WordBounds.{ConstantsFit, InRegister};
 use calendar::data::Constants;
 use calendar::data::RegisterDay;
 
 // Years elapsed, N, at a common year.
 pub(crate) fn years_elapsed(c: Constants, year: u32) -> u64
-    requires { ⌜ Room c ⌝ }
+    requires { ⌜ ConstantsFit c ⌝ }
     ensures { λ r. ⌜ r ≡ yearsElapsed c year ⌝ }
 {
     c.elapsed + year as u64 - c.common
@@ -19,7 +19,7 @@ pub(crate) fn years_elapsed(c: Constants, year: u32) -> u64
 
 // The register day of a count day.
 pub(crate) fn register_day(c: Constants, d: u64) -> RegisterDay
-    requires { ⌜ Registered c d ⌝ }
+    requires { ⌜ InRegister c d ⌝ }
     ensures { λ r. ⌜ r ≡ record { 0 = registerDay c d } ⌝ }
 {
     RegisterDay((d - c.anchor) as u32)
@@ -27,7 +27,7 @@ pub(crate) fn register_day(c: Constants, d: u64) -> RegisterDay
 
 // The first count day of month k.
 pub(crate) fn month_head(c: Constants, k: u64) -> u64
-    requires { ⌜ Room c × (k < 2 ^ 32) ⌝ }
+    requires { ⌜ ConstantsFit c × (k < 2 ^ 32) ⌝ }
     ensures { λ r. ⌜ r ≡ monthHead c k ⌝ }
 {
     k * c.month / c.day
@@ -35,7 +35,7 @@ pub(crate) fn month_head(c: Constants, k: u64) -> u64
 
 // Its register day.
 pub(crate) fn register_head(c: Constants, k: u64) -> RegisterDay
-    requires { ⌜ Room c × (k < 2 ^ 32) × Registered c (monthHead c k) ⌝ }
+    requires { ⌜ ConstantsFit c × (k < 2 ^ 32) × InRegister c (monthHead c k) ⌝ }
     ensures { λ r. ⌜ r ≡ record { 0 = registerDay c (monthHead c k) } ⌝ }
 {
     register_day(c, month_head(c, k))
@@ -43,7 +43,7 @@ pub(crate) fn register_head(c: Constants, k: u64) -> RegisterDay
 
 // The month that has count day d.
 pub(crate) fn month_of_day(c: Constants, d: u64) -> u64
-    requires { ⌜ Room c × (d + 1 < 2 ^ 36) ⌝ }
+    requires { ⌜ ConstantsFit c × (d + 1 < 2 ^ 36) ⌝ }
     ensures { λ r. ⌜ r ≡ monthOfDay c d ⌝ }
 {
     ((d + 1) * c.day - 1) / c.month
@@ -51,7 +51,7 @@ pub(crate) fn month_of_day(c: Constants, d: u64) -> u64
 
 // The month that holds middle qi g, counted on from the epoch.
 pub(crate) fn month_of_qi(c: Constants, g: u64) -> u64
-    requires { ⌜ Room c × (g < 2 ^ 32) ⌝ }
+    requires { ⌜ ConstantsFit c × (g < 2 ^ 32) ⌝ }
     ensures { λ r. ⌜ r ≡ monthOfQi c g ⌝ }
 {
     g * c.year / (12 * c.month)
@@ -59,7 +59,7 @@ pub(crate) fn month_of_qi(c: Constants, g: u64) -> u64
 
 // The last middle qi before the end of month k.
 pub(crate) fn qi_of_month(c: Constants, k: u64) -> u64
-    requires { ⌜ Room c × (k + 1 < 2 ^ 32) ⌝ }
+    requires { ⌜ ConstantsFit c × (k + 1 < 2 ^ 32) ⌝ }
     ensures { λ r. ⌜ r ≡ qiOfMonth c k ⌝ }
 {
     ((k + 1) * (12 * c.month) - 1) / c.year
@@ -67,7 +67,7 @@ pub(crate) fn qi_of_month(c: Constants, k: u64) -> u64
 
 // The month that year n begins with.
 pub(crate) fn first_month(c: Constants, n: u64) -> u64
-    requires { ⌜ Room c × (n < 2 ^ 28) ⌝ }
+    requires { ⌜ ConstantsFit c × (n < 2 ^ 28) ⌝ }
     ensures { λ r. ⌜ r ≡ firstMonth c n ⌝ }
 {
     month_of_qi(c, 12 * n)
@@ -75,7 +75,7 @@ pub(crate) fn first_month(c: Constants, n: u64) -> u64
 
 // The register day of its head.
 pub(crate) fn year_head(c: Constants, n: u64) -> RegisterDay
-    requires { ⌜ Room c × (n < 2 ^ 28) × (firstMonth c n < 2 ^ 32) × Registered c (headOfYear c n) ⌝ }
+    requires { ⌜ ConstantsFit c × (n < 2 ^ 28) × (firstMonth c n < 2 ^ 32) × InRegister c (headOfYear c n) ⌝ }
     ensures { λ r. ⌜ r ≡ record { 0 = registerDay c (headOfYear c n) } ⌝ }
 {
     register_head(c, first_month(c, n))
@@ -90,7 +90,7 @@ pub(crate) fn number_of_qi(g: u64) -> u8
 
 // The number of month k.
 pub(crate) fn month_number(c: Constants, k: u64) -> u8
-    requires { ⌜ Room c × (k + 1 < 2 ^ 32) ⌝ }
+    requires { ⌜ ConstantsFit c × (k + 1 < 2 ^ 32) ⌝ }
     ensures { λ r. ⌜ r ≡ monthNumber c k ⌝ }
 {
     number_of_qi(qi_of_month(c, k))
@@ -98,7 +98,7 @@ pub(crate) fn month_number(c: Constants, k: u64) -> u8
 
 // The leap mark of month k, where g is the last middle qi before its end.
 pub(crate) fn leap_mark_by_qi(c: Constants, k: u64, g: u64) -> u8
-    requires { ⌜ Room c × (k + 1 < 2 ^ 32) × (g ≡ qiOfMonth c k) ⌝ }
+    requires { ⌜ ConstantsFit c × (k + 1 < 2 ^ 32) × (g ≡ qiOfMonth c k) ⌝ }
     ensures { λ r. ⌜ r ≡ leapMark c k ⌝ }
 {
     (k - month_of_qi(c, g)) as u8
@@ -106,7 +106,7 @@ pub(crate) fn leap_mark_by_qi(c: Constants, k: u64, g: u64) -> u8
 
 // The leap mark of month k.
 pub(crate) fn leap_mark(c: Constants, k: u64) -> u8
-    requires { ⌜ Room c × (k + 1 < 2 ^ 32) ⌝ }
+    requires { ⌜ ConstantsFit c × (k + 1 < 2 ^ 32) ⌝ }
     ensures { λ r. ⌜ r ≡ leapMark c k ⌝ }
 {
     leap_mark_by_qi(c, k, qi_of_month(c, k))

@@ -1,13 +1,14 @@
 // The date of a day.
 ghost use mathlib.Core.Path.{_≡_};
 ghost use Rattle.reckoning.specs.Requests.{noDate, dateIn};
-ghost use Rattle.reckoning.specs.Room.{Room};
+ghost use Rattle.reckoning.specs.WordBounds.{ConstantsFit};
 use crate::closed_forms::leap_mark_by_qi;
 use crate::closed_forms::month_head;
 use crate::closed_forms::month_of_day;
 use crate::closed_forms::number_of_qi;
 use crate::closed_forms::qi_of_month;
 use crate::data::Date;
+use crate::refusal_numbers::DAY;
 use calendar::data::Constants;
 use calendar::data::RegisterDay;
 
@@ -25,7 +26,7 @@ pub(crate) fn none(refusal: u8) -> Date
 
 // The date of a register day. Its year tells whether the day is in scope, so that no year's head is reckoned.
 pub(crate) fn of_day(c: Constants, day: RegisterDay) -> Date
-    requires { ⌜ Room c ⌝ }
+    requires { ⌜ ConstantsFit c ⌝ }
     ensures { λ r. ⌜ r ≡ dateIn c (day .0) ⌝ }
 {
     let d = day.0 as u64 + c.anchor;
@@ -33,10 +34,10 @@ pub(crate) fn of_day(c: Constants, day: RegisterDay) -> Date
     let g = qi_of_month(c, k);
     let year = g / 12 + c.common;
     if year <= c.elapsed {
-        return none(7);
+        return none(DAY);
     }
     if c.elapsed + 3000 < year {
-        return none(7);
+        return none(DAY);
     }
     Date {
         refusal: 0,

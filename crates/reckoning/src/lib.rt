@@ -3,7 +3,7 @@
 // System, year and qi number come as 32 bits, so that no number is cut before it can be refused. A refused request
 // gives a blank answer that carries the refusal number.
 ghost use mathlib.Core.Path.{_≡_};
-ghost use Rattle.calendar.specs.Name.{nameOf};
+ghost use Rattle.calendar.specs.SixtyDayName.{nameOf};
 ghost use Rattle.reckoning.specs.Requests.{solsticeOf, qiOf, yearOf, sheetOf, daysOf, monthOf, dateOf};
 use calendar::data::DayName;
 use calendar::data::RegisterDay;
@@ -24,6 +24,7 @@ mod dates;
 mod months;
 mod names;
 pub mod refusal;
+pub mod refusal_numbers;
 mod solar;
 mod year_days;
 
@@ -110,7 +111,7 @@ pub fn days(system: u32, year: u32) -> Days
     year_days::of_common_year(jiyuan(), year)
 }
 
-// The month of a year with a number and a leap mark; refused 6 where the year has none.
+// The month of a year with a number and a leap mark; refused MONTH where the year has none.
 pub fn month(system: u32, year: u32, number: u32, leap: u32) -> Month
     ensures { λ r. ⌜ r ≡ monthOf system year number leap ⌝ }
 {
@@ -119,17 +120,17 @@ pub fn month(system: u32, year: u32, number: u32, leap: u32) -> Month
         return months::none(refusal);
     }
     if system == 1 {
-        return months::of_common_year(guantian(), year, number, leap);
+        return months::month_of_common_year(guantian(), year, number, leap);
     }
-    months::of_common_year(jiyuan(), year, number, leap)
+    months::month_of_common_year(jiyuan(), year, number, leap)
 }
 
-// The date of a register day; refused 7 outside years 1 to 3000.
+// The date of a register day; refused DAY outside years 1 to 3000.
 pub fn date(system: u32, day: RegisterDay) -> Date
     ensures { λ r. ⌜ r ≡ dateOf system (day .0) ⌝ }
 {
     if refusal::outside(1, 2, system) {
-        return dates::none(4);
+        return dates::none(refusal_numbers::SYSTEM);
     }
     if system == 1 {
         return dates::of_day(guantian(), day);

@@ -4,7 +4,7 @@ ghost use Prim.Native.Nat.{_+_, _<_, _^_};
 ghost use Rattle.calendar.specs.Systems.{yearsElapsed};
 ghost use Rattle.calendar.specs.Month.{monthHead};
 ghost use Rattle.reckoning.specs.Requests.{monthsFrom, yearIn, monthAt, noMonth, monthIn};
-ghost use Rattle.reckoning.specs.Room.{Room, Registered, Listed, Reach};
+ghost use Rattle.reckoning.specs.WordBounds.{ConstantsFit, InRegister, MonthsInRegister, YearInRegister};
 use crate::closed_forms::first_month;
 use crate::closed_forms::leap_mark;
 use crate::closed_forms::month_head;
@@ -16,12 +16,13 @@ use crate::closed_forms::years_elapsed;
 use crate::data::Month;
 use crate::data::Year;
 use crate::refusal::outside;
+use crate::refusal_numbers::MONTH;
 use calendar::data::Constants;
 use calendar::data::RegisterDay;
 
 // `count` months from month `first` on: in order each head, number and leap mark, then the head after them.
 fn list(c: Constants, first: u64, count: usize) -> Year
-    requires { ⌜ Listed c first count ⌝ }
+    requires { ⌜ MonthsInRegister c first count ⌝ }
     ensures { λ r. ⌜ r ≡ monthsFrom c first count ⌝ }
 {
     let mut heads = [RegisterDay(0); 14];
@@ -49,7 +50,7 @@ fn list(c: Constants, first: u64, count: usize) -> Year
 
 // The months of year n.
 pub(crate) fn of_year(c: Constants, n: u64) -> Year
-    requires { ⌜ Reach c n ⌝ }
+    requires { ⌜ YearInRegister c n ⌝ }
     ensures { λ r. ⌜ r ≡ yearIn c n ⌝ }
 {
     let first = first_month(c, n);
@@ -59,7 +60,7 @@ pub(crate) fn of_year(c: Constants, n: u64) -> Year
 
 // Month k.
 fn at(c: Constants, k: u64) -> Month
-    requires { ⌜ Room c × (k + 1 < 2 ^ 32) × Registered c (monthHead c k) ⌝ }
+    requires { ⌜ ConstantsFit c × (k + 1 < 2 ^ 32) × InRegister c (monthHead c k) ⌝ }
     ensures { λ r. ⌜ r ≡ monthAt c k ⌝ }
 {
     let head = month_head(c, k);
@@ -82,15 +83,15 @@ pub(crate) fn none(refusal: u8) -> Month
 }
 
 // The month of year n with a number and a leap mark.
-fn cited(c: Constants, n: u64, number: u32, leap: u32) -> Month
-    requires { ⌜ Reach c n ⌝ }
+fn month_of_year(c: Constants, n: u64, number: u32, leap: u32) -> Month
+    requires { ⌜ YearInRegister c n ⌝ }
     ensures { λ r. ⌜ r ≡ monthIn c n number leap ⌝ }
 {
     if outside(1, 12, number) {
-        return none(6);
+        return none(MONTH);
     }
     if outside(0, 1, leap) {
-        return none(6);
+        return none(MONTH);
     }
     let g = 12 * n + (number as u64 + 1) % 12;
     let k = month_of_qi(c, g);
@@ -100,12 +101,12 @@ fn cited(c: Constants, n: u64, number: u32, leap: u32) -> Month
     if k + 1 < month_of_qi(c, g + 1) {
         return at(c, k + 1);
     }
-    none(6)
+    none(MONTH)
 }
 
-pub(crate) fn of_common_year(c: Constants, year: u32, number: u32, leap: u32) -> Month
-    requires { ⌜ Reach c (yearsElapsed c year) ⌝ }
+pub(crate) fn month_of_common_year(c: Constants, year: u32, number: u32, leap: u32) -> Month
+    requires { ⌜ YearInRegister c (yearsElapsed c year) ⌝ }
     ensures { λ r. ⌜ r ≡ monthIn c (yearsElapsed c year) number leap ⌝ }
 {
-    cited(c, years_elapsed(c, year), number, leap)
+    month_of_year(c, years_elapsed(c, year), number, leap)
 }

@@ -1,10 +1,10 @@
 // The names of one year's days.
 ghost use mathlib.Core.Path.{_≡_};
 ghost use Prim.Native.Nat.{_≤_, _<_, _^_};
-ghost use Rattle.calendar.specs.Name.{nameOf};
+ghost use Rattle.calendar.specs.SixtyDayName.{nameOf};
 ghost use Rattle.reckoning.specs.Requests.{sheetIn, nameAt, noNames};
 ghost use Rattle.reckoning.specs.Filled.{filled};
-ghost use Rattle.reckoning.specs.Room.{Reach};
+ghost use Rattle.reckoning.specs.WordBounds.{YearInRegister};
 use crate::data::Sheet;
 use crate::year_days;
 use calendar::data::Constants;
@@ -35,7 +35,7 @@ fn names_from(head: RegisterDay, length: usize) -> [u8; 384]
 
 // The day sheet of year n.
 pub(crate) fn of_year(c: Constants, n: u64) -> Sheet
-    requires { ⌜ Reach c n ⌝ }
+    requires { ⌜ YearInRegister c n ⌝ }
     ensures { λ r. ⌜ r ≡ sheetIn c n ⌝ }
 {
     let days = year_days::of_year(c, n);

@@ -1,6 +1,9 @@
 // Numbered refusals of the requests by system and year: `of_` functions give the first that applies, or 0.
 ghost use mathlib.Core.Path.{_≡_};
-ghost use Rattle.reckoning.specs.Refusal.{outside, yearRefusal, qiRefusal};
+ghost use Rattle.reckoning.specs.ComputedRefusals.{outside, yearRefusal, qiRefusal};
+use crate::refusal_numbers::QI;
+use crate::refusal_numbers::SYSTEM;
+use crate::refusal_numbers::YEAR;
 
 // x is not `least` to `most`.
 pub fn outside(least: u32, most: u32, x: u32) -> bool
@@ -13,10 +16,10 @@ pub(crate) fn of_year(system: u32, year: u32) -> u8
     ensures { λ r. ⌜ r ≡ yearRefusal system year ⌝ }
 {
     if outside(1, 2, system) {
-        return 4;
+        return SYSTEM;
     }
     if outside(1, 3000, year) {
-        return 5;
+        return YEAR;
     }
     0
 }
@@ -29,7 +32,7 @@ pub(crate) fn of_qi(system: u32, year: u32, i: u32) -> u8
         return refusal;
     }
     if 23 < i {
-        return 9;
+        return QI;
     }
     0
 }

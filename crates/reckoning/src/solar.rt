@@ -2,7 +2,7 @@
 ghost use mathlib.Core.Path.{_≡_};
 ghost use Prim.Native.Nat.{_%_, _^_, _≤_, _<_};
 ghost use Rattle.reckoning.specs.Requests.{solsticeIn, qiIn};
-ghost use Rattle.reckoning.specs.Room.{Reach};
+ghost use Rattle.reckoning.specs.WordBounds.{YearInRegister};
 use crate::closed_forms::register_day;
 use crate::data::Qi;
 use crate::data::Solstice;
@@ -18,7 +18,7 @@ fn rest(x: u64, by: u64) -> u32
 
 // The solstice of year n.
 pub(crate) fn solstice(c: Constants, n: u64) -> Solstice
-    requires { ⌜ Reach c n ⌝ }
+    requires { ⌜ YearInRegister c n ⌝ }
     ensures { λ r. ⌜ r ≡ solsticeIn c n ⌝ }
 {
     let t = n * c.year;
@@ -31,7 +31,7 @@ pub(crate) fn solstice(c: Constants, n: u64) -> Solstice
 
 // Qi i of year n: its moment is reckoned in small units, so that nothing is rounded.
 pub(crate) fn qi(c: Constants, n: u64, i: u64) -> Qi
-    requires { ⌜ Reach c n × (i ≤ 23) ⌝ }
+    requires { ⌜ YearInRegister c n × (i ≤ 23) ⌝ }
     ensures { λ r. ⌜ r ≡ qiIn c n i ⌝ }
 {
     let moment = n * c.year * c.units + i * (c.year * c.units / 24);

@@ -1,11 +1,11 @@
 use mathlib.Core.Path.{_≡_, subst, sym, ap, _∙_}
 use mathlib.Core.Bool.{false}
-use Rattle.reckoning.specs.Refusal.{outside}
-use Rattle.reckoning.specs.Room.{Room}
+use Rattle.reckoning.specs.ComputedRefusals.{outside}
+use Rattle.reckoning.specs.WordBounds.{ConstantsFit}
 use Rattle.reckoning.specs.Requests.{dateIn, dateOf}
-use Rattle.reckoning.proofs.Scope.{room}
-use Rattle.reckoning.proofs.Answers.{picks-guantian, picks-jiyuan}
-use Rattle.reckoning.proofs.Dated.{date-answered}
+use Rattle.reckoning.proofs.ScopeInRegister.{constants-fit}
+use Rattle.reckoning.proofs.AnswerUnless.{picks-guantian, picks-jiyuan}
+use Rattle.reckoning.proofs.DateRequest.{date-answered}
 use borrow.Author.Needs.{needs}
 use Rattle.reckoning.proofs.date.Statement.{statement}
 use Rattle.reckoning.proofs.date.Tie as tie
@@ -27,7 +27,7 @@ guantian-requires : tie.Need-guantian-requires
 guantian-requires c κs = search needs
 
 of-day-requires : tie.Need-of-day-requires
-of-day-requires c κs = subst Room (sym (c .guantian .ensures)) (room 1)
+of-day-requires c κs = subst ConstantsFit (sym (c .guantian .ensures)) (constants-fit 1)
 
 returns-2 : tie.Need-returns-2
 returns-2 c =
@@ -40,7 +40,7 @@ jiyuan-requires : tie.Need-jiyuan-requires
 jiyuan-requires c κs = search needs
 
 of-day-requires-2 : tie.Need-of-day-requires-2
-of-day-requires-2 c κs = subst Room (sym (c .jiyuan .ensures)) (room 2)
+of-day-requires-2 c κs = subst ConstantsFit (sym (c .jiyuan .ensures)) (constants-fit 2)
 
 returns-3 : tie.Need-returns-3
 returns-3 c =

@@ -1,8 +1,8 @@
 use mathlib.Core.Path.{_≡_, sym, _∙_}
 use Rattle.calendar.specs.Systems.{constantsOf}
-use Rattle.reckoning.specs.Refusal.{yearRefusal}
+use Rattle.reckoning.specs.ComputedRefusals.{yearRefusal}
 use Rattle.reckoning.specs.Requests.{daysIn, noDays, daysOf}
-use Rattle.reckoning.proofs.Answers.{refused-here, answered-here, picks-guantian, picks-jiyuan, reach-here}
+use Rattle.reckoning.proofs.AnswerUnless.{refused-here, answered-here, picks-guantian, picks-jiyuan, reach-here}
 use borrow.Author.Needs.{needs}
 use Rattle.reckoning.proofs.days.Statement.{statement}
 use Rattle.reckoning.proofs.days.Tie as tie

@@ -2,9 +2,9 @@ use Prim.Native.Nat.{ℕ}
 use mathlib.Core.Path.{_≡_, sym, _∙_}
 use Rattle.calendar.specs.declared.data.Constants.{Constants}
 use Rattle.calendar.specs.Systems.{constantsOf, yearsElapsed}
-use Rattle.reckoning.specs.Refusal.{yearRefusal}
+use Rattle.reckoning.specs.ComputedRefusals.{yearRefusal}
 use Rattle.reckoning.specs.Requests.{monthIn, noMonth, monthOf}
-use Rattle.reckoning.proofs.Answers.{refused-here, answered-here, picks-guantian, picks-jiyuan, reach-here}
+use Rattle.reckoning.proofs.AnswerUnless.{refused-here, answered-here, picks-guantian, picks-jiyuan, reach-here}
 use borrow.Author.Needs.{needs}
 use Rattle.reckoning.proofs.month.Statement.{statement}
 use Rattle.reckoning.proofs.month.Tie as tie
@@ -40,28 +40,28 @@ returns c =
 guantian-requires : tie.Need-guantian-requires
 guantian-requires c κs = search needs
 
-of-common-year-requires : tie.Need-of-common-year-requires
-of-common-year-requires c κs =
+month-of-common-year-requires : tie.Need-month-of-common-year-requires
+month-of-common-year-requires c κs =
     let request = c .before .before in
     let args = request .before .before .args in
     reach-here (args .system) (args .year) _ (guantian-picked c) (accepted request)
 
 returns-2 : tie.Need-returns-2
 returns-2 c =
-    c .of-common-year .ensures ∙ month-answered _ _ _ _ _ (guantian-picked (c .before)) (accepted (c .before .before .before))
+    c .month-of-common-year .ensures ∙ month-answered _ _ _ _ _ (guantian-picked (c .before)) (accepted (c .before .before .before))
 
 jiyuan-requires : tie.Need-jiyuan-requires
 jiyuan-requires c κs = search needs
 
-of-common-year-requires-2 : tie.Need-of-common-year-requires-2
-of-common-year-requires-2 c κs =
+month-of-common-year-requires-2 : tie.Need-month-of-common-year-requires-2
+month-of-common-year-requires-2 c κs =
     let request = c .before .before in
     let args = request .before .before .args in
     reach-here (args .system) (args .year) _ (jiyuan-picked c) (accepted request)
 
 returns-3 : tie.Need-returns-3
 returns-3 c =
-    c .of-common-year2 .ensures ∙ month-answered _ _ _ _ _ (jiyuan-picked (c .before)) (accepted (c .before .before .before))
+    c .month-of-common-year2 .ensures ∙ month-answered _ _ _ _ _ (jiyuan-picked (c .before)) (accepted (c .before .before .before))
 
 pub month-spec : {M : Type 1} → statement M
 month-spec =
@@ -71,8 +71,8 @@ month-spec =
     none-requires
     returns
     guantian-requires
-    of-common-year-requires
+    month-of-common-year-requires
     returns-2
     jiyuan-requires
-    of-common-year-requires-2
+    month-of-common-year-requires-2
     returns-3)

@@ -1,7 +1,7 @@
 use mathlib.Core.Path.{sym, ap, _∙_}
 use Rattle.reckoning.specs.Requests.{solsticeIn, noSolstice, solsticeOf}
-use Rattle.reckoning.proofs.Refusals.{accepted}
-use Rattle.reckoning.proofs.Answers.{refused, answered, within-reach}
+use Rattle.reckoning.proofs.RefusalCases.{accepted}
+use Rattle.reckoning.proofs.AnswerUnless.{refused, answered, within-reach}
 use borrow.Author.Needs.{needs}
 use Rattle.reckoning.proofs.solstice.Statement.{statement}
 use Rattle.reckoning.proofs.solstice.Tie as tie

@@ -1,10 +1,10 @@
 use mathlib.Core.Path.{_≡_, sym, _∙_}
 use mathlib.Core.Bool.{false}
 use native.Mathlib.Omega.{arith}
-use Rattle.reckoning.specs.Refusal.{outside}
-use Rattle.reckoning.proofs.Refusals.{inside-of}
-use Rattle.reckoning.proofs.Fits.{month-fits}
-use Rattle.citation.proofs.Judgements.{month-refused, day-wrong, day-right}
+use Rattle.reckoning.specs.ComputedRefusals.{outside}
+use Rattle.reckoning.proofs.RefusalCases.{inside-of}
+use Rattle.reckoning.proofs.AnswersFit.{month-fits}
+use Rattle.citation.proofs.JudgementCases.{month-refused, day-wrong, day-right}
 use borrow.Author.Needs.{needs}
 use Rattle.citation.proofs.judge.judge_day.Statement.{statement}
 use Rattle.citation.proofs.judge.judge_day.Tie as tie

@@ -1,8 +1,8 @@
 use mathlib.Core.Path.{_≡_, ap, _∙_}
 use native.Mathlib.Omega.{arith}
-use Rattle.calendar.specs.Name.{nameOf}
-use Rattle.reckoning.proofs.Fits.{month-fits}
-use Rattle.citation.proofs.Judgements.{name-month-refused, no-name, name-past, name-right-from}
+use Rattle.calendar.specs.SixtyDayName.{nameOf}
+use Rattle.reckoning.proofs.AnswersFit.{month-fits}
+use Rattle.citation.proofs.JudgementCases.{name-month-refused, no-name, name-past, name-right-from}
 use borrow.Author.Needs.{needs}
 use Rattle.citation.proofs.judge.judge_name.Statement.{statement}
 use Rattle.citation.proofs.judge.judge_name.Tie as tie

@@ -2,10 +2,10 @@ use mathlib.Core.Path.{_≡_, sym, _∙_}
 use mathlib.Core.Bool.{false}
 use native.Mathlib.Omega.{arith}
 use Rattle.calendar.specs.Inside.{Inside}
-use Rattle.reckoning.specs.Refusal.{outside}
-use Rattle.reckoning.proofs.Refusals.{inside-of}
-use Rattle.reckoning.proofs.Fits.{days-fit}
-use Rattle.citation.proofs.Judgements.{year-refused, ordinal-wrong, ordinal-right}
+use Rattle.reckoning.specs.ComputedRefusals.{outside}
+use Rattle.reckoning.proofs.RefusalCases.{inside-of}
+use Rattle.reckoning.proofs.AnswersFit.{days-fit}
+use Rattle.citation.proofs.JudgementCases.{year-refused, ordinal-wrong, ordinal-right}
 use borrow.Author.Needs.{needs}
 use Rattle.citation.proofs.judge.judge_ordinal.Statement.{statement}
 use Rattle.citation.proofs.judge.judge_ordinal.Tie as tie

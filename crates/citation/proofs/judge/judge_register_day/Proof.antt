@@ -1,5 +1,5 @@
 use mathlib.Core.Path.{_∙_}
-use Rattle.citation.proofs.Judgements.{date-refused, date-accepted}
+use Rattle.citation.proofs.JudgementCases.{date-refused, date-accepted}
 use borrow.Author.Needs.{needs}
 use Rattle.citation.proofs.judge.judge_register_day.Statement.{statement}
 use Rattle.citation.proofs.judge.judge_register_day.Tie as tie

@@ -1,6 +1,7 @@
 use mathlib.Core.Path.{_∙_}
 use native.Mathlib.Omega.{arith}
-use Rattle.citation.proofs.Storing.{refusal-kept, refusal-eight, refusal-none}
+use Rattle.reckoning.specs.RefusalNumbers.{OUTPUT}
+use Rattle.citation.proofs.Storing.{refusal-kept, refusal-output, refusal-none}
 use Rattle.citation.proofs.Storing.{answer-refused, output-refused, answer-accepted, output-accepted}
 use borrow.Author.Needs.{needs}
 use Rattle.citation.proofs.store.chiselbrow_store.Statement.{statement}
@@ -22,6 +23,9 @@ returns c =
     let r = refusal-kept _ _ _ (judged .judge .ensures) (c .if1 .taken) in
     (answer-refused _ _ (c .if1 .taken) _ r, output-refused _ _ (c .if1 .taken) output r)
 
+cast-result : tie.Need-cast-result
+cast-result c = search needs
+
 mul-result-2 : tie.Need-mul-result-2
 mul-result-2 c = search needs
 
@@ -29,14 +33,14 @@ returns-2 : tie.Need-returns-2
 returns-2 c =
     let judged = c .before .before .before in
     let output = judged .before .before .before .args .output .now in
-    let r = refusal-eight _ _ _ (judged .judge .ensures) (c .before .if1 .left) (c .if2 .taken) in
-    (answer-refused _ 8 (λ z. omega arith) _ r, output-refused _ 8 (λ z. omega arith) output r)
+    let r = refusal-output _ _ _ (judged .judge .ensures) (c .before .if1 .left) (c .if2 .taken) in
+    (answer-refused _ OUTPUT (λ z. omega arith) _ r, output-refused _ OUTPUT (λ z. omega arith) output r)
 
 put-requires : tie.Need-put-requires
 put-requires c κs = search needs
 
-cast-result : tie.Need-cast-result
-cast-result c = search needs
+cast-result-2 : tie.Need-cast-result-2
+cast-result-2 c = search needs
 
 same-length : tie.Need-same-length
 same-length c = search needs
@@ -60,9 +64,10 @@ chiselbrow-store-spec =
     cast-refusal
     mul-result
     returns
+    cast-result
     mul-result-2
     returns-2
     put-requires
-    cast-result
+    cast-result-2
     same-length
     returns-3)

@@ -1,6 +1,6 @@
 use mathlib.Core.Path.{ap, _∙_}
 use borrow.Author.Tests.{lt-leb, le-leb}
-use Rattle.reckoning.specs.Refusal.{outside}
+use Rattle.reckoning.specs.ComputedRefusals.{outside}
 use borrow.Author.Needs.{needs}
 use Rattle.lines.proofs.convert.is_misframed.Statement.{statement}
 use Rattle.lines.proofs.convert.is_misframed.Tie as tie

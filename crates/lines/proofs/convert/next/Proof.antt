@@ -2,7 +2,7 @@ use Prim.Native.Nat.{ℕ}
 use mathlib.Core.Path.{_≡_, sym, ap, _∙_}
 use mathlib.Core.Bool.{Bool}
 use native.Mathlib.Omega.{arith}
-use Rattle.reckoning.specs.Refusal.{outside}
+use Rattle.reckoning.specs.ComputedRefusals.{outside}
 use Rattle.lines.proofs.Framing.{no-room, no-field, bad-field, too-few, whole}
 use borrow.Author.Needs.{needs}
 use Rattle.lines.proofs.convert.next.Statement.{statement}

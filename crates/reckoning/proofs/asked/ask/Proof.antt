@@ -1,7 +1,7 @@
 use mathlib.Core.Path.{subst, sym, ap, _∙_}
 use Rattle.calendar.specs.Systems.{yearsElapsed}
-use Rattle.reckoning.specs.Room.{Room}
-use Rattle.reckoning.proofs.Scope.{room}
+use Rattle.reckoning.specs.WordBounds.{ConstantsFit}
+use Rattle.reckoning.proofs.ScopeInRegister.{constants-fit}
 use borrow.Author.Needs.{needs}
 use Rattle.reckoning.proofs.asked.ask.Statement.{statement}
 use Rattle.reckoning.proofs.asked.ask.Tie as tie
@@ -10,7 +10,7 @@ constants-of-requires : tie.Need-constants-of-requires
 constants-of-requires c κs = search needs
 
 years-elapsed-requires : tie.Need-years-elapsed-requires
-years-elapsed-requires c κs = subst Room (sym (c .constants-of .ensures)) (room (c .before .args .system))
+years-elapsed-requires c κs = subst ConstantsFit (sym (c .constants-of .ensures)) (constants-fit (c .before .args .system))
 
 returns : tie.Need-returns
 returns c =

@@ -1,7 +1,7 @@
 use native.Mathlib.Omega.{arith}
 use mathlib.Core.Path.{_∙_, ap}
 use Rattle.calendar.specs.ClosedForms.{monthOfQi}
-use Rattle.calendar.proofs.Months.{behind-most, qi-of-month-most}
+use Rattle.calendar.proofs.EveryCalendar.{behind-most, qi-of-month-most}
 use Rattle.calendar.proofs.Reckoned.{reckoned}
 use Rattle.reckoning.proofs.closed_forms.leap_mark_by_qi.Statement.{statement}
 use Rattle.reckoning.proofs.closed_forms.leap_mark_by_qi.Tie as tie

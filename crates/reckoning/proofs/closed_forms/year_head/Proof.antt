@@ -2,7 +2,7 @@ use mathlib.Core.Path.{subst, sym, ap, _∙_}
 use native.Mathlib.Omega.{arith}
 use Rattle.calendar.specs.Systems.{registerDay}
 use Rattle.calendar.specs.Month.{monthHead}
-use Rattle.reckoning.specs.Room.{Registered}
+use Rattle.reckoning.specs.WordBounds.{InRegister}
 use Rattle.reckoning.specs.Requests.{asRegisterDay}
 use borrow.Author.Needs.{needs}
 use Rattle.reckoning.proofs.closed_forms.year_head.Statement.{statement}
@@ -16,7 +16,7 @@ register-head-requires c κs =
     let start = c .before in
     let k = start .args .c in
     let first-is = sym (c .first-month .ensures) in
-    (start .pre .0, omega arith, subst (λ m. Registered k (monthHead k m)) first-is (start .pre .3))
+    (start .pre .0, omega arith, subst (λ m. InRegister k (monthHead k m)) first-is (start .pre .3))
 
 returns : tie.Need-returns
 returns c =

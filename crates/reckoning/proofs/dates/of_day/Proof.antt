@@ -3,7 +3,7 @@ use mathlib.Core.Path.{ap, _∙_}
 use native.Mathlib.Omega.{arith}
 use Rattle.calendar.specs.Month.{monthHead, numberOf}
 use Rattle.calendar.specs.ClosedForms.{qiOfMonth, leapMark}
-use Rattle.reckoning.proofs.Dated.{Dated, dated, date-early, date-late, date-in-time}
+use Rattle.reckoning.proofs.DateRequest.{Dated, dated, date-early, date-late, date-in-time}
 use borrow.Author.Needs.{needs}
 use Rattle.reckoning.proofs.dates.of_day.Statement.{statement}
 use Rattle.reckoning.proofs.dates.of_day.Tie as tie

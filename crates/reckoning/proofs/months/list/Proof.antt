@@ -4,7 +4,7 @@ use mathlib.Core.Path.{_≡_}
 use native.Mathlib.Omega.{arith}
 use Rattle.reckoning.specs.Requests.{headAt, numberAt, leapAt, noHeads, noMarks, monthsFrom}
 use Rattle.reckoning.specs.Filled.{filled}
-use Rattle.reckoning.proofs.Fill.{filled-none, filled-more}
+use Rattle.reckoning.proofs.FilledLaws.{filled-none, filled-more}
 use Rattle.reckoning.proofs.months.list.Statement.{statement}
 use Rattle.reckoning.proofs.months.list.Tie as tie
 
@@ -27,7 +27,7 @@ add-k c = omega arith
 register-head-requires : tie.Need-register-head-requires Inv-loop μ-loop
 register-head-requires c κs =
     let pre = c .before .before .pre in
-    (pre .room, omega arith, pre .head (c .before .loop .i) (omega arith))
+    (pre .constants-fit, omega arith, pre .head (c .before .loop .i) (omega arith))
 
 mul-heads : tie.Need-mul-heads Inv-loop μ-loop
 mul-heads c = omega arith
@@ -36,13 +36,13 @@ array-set-from-heads : tie.Need-array-set-from-heads Inv-loop μ-loop
 array-set-from-heads c = omega arith
 
 month-number-requires : tie.Need-month-number-requires Inv-loop μ-loop
-month-number-requires c κs = (c .before .before .before .pre .room, omega arith)
+month-number-requires c κs = (c .before .before .before .pre .constants-fit, omega arith)
 
 array-write-numbers : tie.Need-array-write-numbers Inv-loop μ-loop
 array-write-numbers c = omega arith
 
 leap-mark-requires : tie.Need-leap-mark-requires Inv-loop μ-loop
-leap-mark-requires c κs = (c .before .before .before .before .pre .room, omega arith)
+leap-mark-requires c κs = (c .before .before .before .before .pre .constants-fit, omega arith)
 
 array-write-leaps : tie.Need-array-write-leaps Inv-loop μ-loop
 array-write-leaps c = omega arith
@@ -68,7 +68,7 @@ add-register-head c = omega arith
 register-head-requires-2 : tie.Need-register-head-requires-2 Inv-loop μ-loop
 register-head-requires-2 c κs =
     let start = c .before .before in
-    (start .pre .room, omega arith, start .pre .head (start .args .count) (omega arith))
+    (start .pre .constants-fit, omega arith, start .pre .head (start .args .count) (omega arith))
 
 mul-heads-2 : tie.Need-mul-heads-2 Inv-loop μ-loop
 mul-heads-2 c = omega arith

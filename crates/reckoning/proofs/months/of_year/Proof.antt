@@ -1,11 +1,11 @@
 use mathlib.Core.Path.{ap₂, _∙_, subst₂, sym}
 use Prim.Native.Nat.{_-_}
 use native.Mathlib.Omega.{arith}
-use Rattle.reckoning.specs.Room.{Listed}
+use Rattle.reckoning.specs.WordBounds.{MonthsInRegister}
 use Rattle.reckoning.specs.Requests.{monthsFrom}
-use Rattle.calendar.proofs.Months.{count-least}
+use Rattle.calendar.proofs.EveryCalendar.{count-least}
 use Rattle.calendar.proofs.Reckoned.{reckoned}
-use Rattle.reckoning.proofs.InReach.{listed}
+use Rattle.reckoning.proofs.RegisterLaws.{months-in-register}
 use borrow.Author.Needs.{needs}
 use Rattle.reckoning.proofs.months.of_year.Statement.{statement}
 use Rattle.reckoning.proofs.months.of_year.Tie as tie
@@ -22,7 +22,7 @@ first-month-requires-2 c κs = search needs
 sub-list : tie.Need-sub-list
 sub-list c =
     let start = c .before .before in
-    let K = reckoned (start .args .c) (start .pre .room .consistent) in
+    let K = reckoned (start .args .c) (start .pre .constants-fit .consistent) in
     omega (arith, c .before .first-month .ensures, c .first-month2 .ensures, count-least K (start .args .n))
 
 list-requires : tie.Need-list-requires
@@ -30,7 +30,7 @@ list-requires c κs =
     let start = c .before .before in
     let first = sym (c .before .first-month .ensures) in
     let next = sym (c .first-month2 .ensures) in
-    subst₂ (λ f m. Listed (start .args .c) f (m - f)) first next (listed _ _ (start .pre))
+    subst₂ (λ f m. MonthsInRegister (start .args .c) f (m - f)) first next (months-in-register _ _ (start .pre))
 
 returns : tie.Need-returns
 returns c =

@@ -4,7 +4,7 @@ use mathlib.Core.Path.{_≡_, ap, _∙_}
 use native.Mathlib.Omega.{arith}
 use Rattle.reckoning.specs.Requests.{nameAt, noNames}
 use Rattle.reckoning.specs.Filled.{filled}
-use Rattle.reckoning.proofs.Fill.{filled-none, filled-more}
+use Rattle.reckoning.proofs.FilledLaws.{filled-none, filled-more}
 use Rattle.reckoning.proofs.names.names_from.Statement.{statement}
 use Rattle.reckoning.proofs.names.names_from.Tie as tie
 

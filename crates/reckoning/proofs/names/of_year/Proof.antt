@@ -2,7 +2,7 @@ use mathlib.Core.Path.{ap, _∙_, subst, sym}
 use Prim.Native.Nat.{_≤_}
 use Rattle.reckoning.specs.Filled.{filled}
 use Rattle.reckoning.specs.Requests.{sheetIn, nameAt, noNames}
-use Rattle.reckoning.proofs.InReach.{register-length-most}
+use Rattle.reckoning.proofs.RegisterLaws.{register-length-most}
 use borrow.Author.Needs.{needs}
 use Rattle.reckoning.proofs.names.of_year.Statement.{statement}
 use Rattle.reckoning.proofs.names.of_year.Tie as tie

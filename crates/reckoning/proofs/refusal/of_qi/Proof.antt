@@ -1,6 +1,6 @@
 use mathlib.Core.Path.{sym, _∙_}
 use borrow.Author.Tests.{lt-ltb, le-ltb}
-use Rattle.reckoning.proofs.Refusals.{qi-unseen, qi-seen}
+use Rattle.reckoning.proofs.RefusalCases.{qi-unseen, qi-seen}
 use borrow.Author.Needs.{needs}
 use Rattle.reckoning.proofs.refusal.of_qi.Statement.{statement}
 use Rattle.reckoning.proofs.refusal.of_qi.Tie as tie

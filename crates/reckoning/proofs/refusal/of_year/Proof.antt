@@ -1,5 +1,5 @@
 use mathlib.Core.Path.{sym, _∙_}
-use Rattle.reckoning.specs.Refusal.{yearRefusal}
+use Rattle.reckoning.specs.ComputedRefusals.{yearRefusal}
 use borrow.Author.Needs.{needs}
 use Rattle.reckoning.proofs.refusal.of_year.Statement.{statement}
 use Rattle.reckoning.proofs.refusal.of_year.Tie as tie

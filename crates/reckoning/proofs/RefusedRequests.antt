@@ -5,13 +5,13 @@ use mathlib.Core.Logic.{inl, inr}
 use native.Mathlib.Omega.{arith}
 use Rattle.calendar.specs.declared.data.Constants.{Constants}
 use Rattle.calendar.proofs.Rising.{by-order}
-use Rattle.reckoning.specs.Rows.{FirstOf, yearRows, qiRows}
-use Rattle.reckoning.specs.Refusal.{yearRefusal, qiRefusal}
+use Rattle.reckoning.specs.WordedRefusals.{FirstOf, yearRows, qiRows}
+use Rattle.reckoning.specs.ComputedRefusals.{yearRefusal, qiRefusal}
 use Rattle.reckoning.specs.Asked.{askedOf}
 use Rattle.reckoning.specs.Requests.{answerUnless, solsticeIn, noSolstice, solsticeOf, qiIn, noQi, qiOf}
 use Rattle.reckoning.specs.Requests.{yearIn, noYear, yearOf, sheetIn, noSheet, sheetOf}
-use Rattle.reckoning.proofs.Refusals.{by-scope, in-scope, in-scope-qi, qi-unseen, qi-nine}
-use Rattle.reckoning.proofs.Answers.{refused}
+use Rattle.reckoning.proofs.RefusalCases.{by-scope, in-scope, in-scope-qi, qi-unseen, qi-refused}
+use Rattle.reckoning.proofs.AnswerUnless.{refused}
 
 pub year-refusal-first : (system year : ℕ) → FirstOf (yearRows system year) (yearRefusal system year)
 year-refusal-first system year =
@@ -31,7 +31,7 @@ qi-refusal-first system year i =
       inr (
         λ w. w (s .year-inside),
         by-order 23 i
-            (λ h. inl (qi-nine system year i s h, h))
+            (λ h. inl (qi-refused system year i s h, h))
             (λ h. inr (λ w. omega arith, in-scope-qi system year i s h)),
       ),
     ))

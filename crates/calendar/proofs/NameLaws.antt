@@ -4,7 +4,7 @@ use mathlib.Core.Path.{_≡_}
 use native.Mathlib.Omega.{arith}
 use Rattle.calendar.specs.declared.data.Constants.{Constants}
 use Rattle.calendar.specs.Systems.{registerDay}
-use Rattle.calendar.specs.Name.{nameOfCountDay, nameOf}
+use Rattle.calendar.specs.SixtyDayName.{nameOfCountDay, nameOf}
 use Rattle.calendar.specs.Month.{InMonth}
 use Rattle.calendar.specs.Consistent.{Consistent}
 use Rattle.calendar.proofs.Reckoned.{reckoned}

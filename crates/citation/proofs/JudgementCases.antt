@@ -1,19 +1,23 @@
 -- The cases of each kind's judgement: refused by the reckoning, at a wrong place, or accepted.
 use Prim.Native.Nat.{ℕ, _+_, _-_, _%_, _≤_, _<_}
-use mathlib.Core.Path.{_≡_, ap, _∙_}
-use mathlib.Core.Bool.{Bool, true, false, _||_}
+use mathlib.Core.Path.{_≡_, ap, sym, subst, _∙_}
+use mathlib.Core.Bool.{Bool, true, false, true≢false, _||_}
 use mathlib.Core.List.{List}
+use native.Mathlib.Decide.{ℕ-discrete}
 use native.Mathlib.Omega.{arith}
 use lib.ListN.{length}
-use Rattle.reckoning.proofs.Refusals.{inside-of}
-use Rattle.calendar.specs.Name.{nameOf}
+use Rattle.reckoning.proofs.RefusalCases.{inside, outside-of}
+use Rattle.calendar.specs.Inside.{Inside}
+use Rattle.calendar.specs.SixtyDayName.{nameOf}
 use Rattle.calendar.proofs.Rising.{by-order}
+use Rattle.reckoning.specs.RefusalNumbers.{SHORT, KIND, LENGTH, DAY}
 use Rattle.citation.specs.Record.{lengthField, kindOf, systemOf, kindLength}
 use Rattle.citation.specs.Record.{yearField, monthField, leapField, dayField, nameField, ordinalField, registerDayField}
 use Rattle.citation.specs.JudgeInputs.{Whole}
-use lib.Dec.{ltb, leb}
+use Rattle.citation.specs.CitationRefusals.{WrongLength}
+use lib.Dec.{ltb, leb, eqb}
 use borrow.Author.Tests.{eq-eqb, ne-eqb, lt-ltb, le-ltb, le-leb, lt-leb}
-use Rattle.reckoning.specs.Refusal.{outside}
+use Rattle.reckoning.specs.ComputedRefusals.{outside}
 use Rattle.reckoning.specs.declared.data.Month.{Month}
 use Rattle.reckoning.specs.declared.data.Days.{Days}
 use Rattle.reckoning.specs.declared.data.Date.{Date}
@@ -21,7 +25,10 @@ use Rattle.reckoning.specs.Requests.{daysOf, monthOf, dateOf}
 use Rattle.citation.specs.declared.judge.Judgement.{Judgement}
 use Rattle.citation.specs.Store.{refuse, accept, unlessRefused, unlessWrong, judgeDate, judgeRegisterDay, judgeInYear}
 use Rattle.citation.specs.Store.{judgeOrdinal, judgeInMonth, judgeDay, judgeNameInMonth, judgeName, daysToName}
-use Rattle.citation.specs.Store.{judgeKind, judgeOf}
+use Rattle.citation.specs.Store.{lengthRight, judgeKind, judgeOf}
+
+pub by-equal : {P : Type 0} (m n : ℕ) → (m ≡ n → P) → ((m ≡ n → ⊥) → P) → P
+by-equal m n f g = elim (ℕ-discrete m n) [ yes e ↦ f e | no e ↦ g e ]
 
 -- One law for every kind.
 module _ (refusal : ℕ) (wrong : Bool) (j : Judgement) where
@@ -31,7 +38,7 @@ module _ (refusal : ℕ) (wrong : Bool) (j : Judgement) where
   accepted-by : refusal ≡ 0 → j ≡ unlessRefused refusal j
   accepted-by h = simp (eq-eqb refusal 0 h)
 
-  wrong-place : refusal ≡ 0 → wrong ≡ true → refuse 7 ≡ unlessRefused refusal (unlessWrong wrong j)
+  wrong-place : refusal ≡ 0 → wrong ≡ true → refuse DAY ≡ unlessRefused refusal (unlessWrong wrong j)
   wrong-place h e = simp (eq-eqb refusal 0 h, e)
 
   right-place : refusal ≡ 0 → wrong ≡ false → j ≡ unlessRefused refusal (unlessWrong wrong j)
@@ -64,7 +71,7 @@ module _ (system year ordinal : ℕ) (y : Days) (e : y ≡ daysOf system year) w
   pub year-refused : (y .refusal ≡ 0 → ⊥) → refuse (y .refusal) ≡ judgeOrdinal system year ordinal
   year-refused h = refused-by (y .refusal) false (unlessWrong (outside 1 (y .length) ordinal) on-ordinal) h ∙ in-year
 
-  pub ordinal-wrong : y .refusal ≡ 0 → outside 1 (y .length) ordinal ≡ true → refuse 7 ≡ judgeOrdinal system year ordinal
+  pub ordinal-wrong : y .refusal ≡ 0 → outside 1 (y .length) ordinal ≡ true → refuse DAY ≡ judgeOrdinal system year ordinal
   ordinal-wrong h w = wrong-place (y .refusal) (outside 1 (y .length) ordinal) on-ordinal h w ∙ in-year
 
   pub ordinal-right : y .refusal ≡ 0 → outside 1 (y .length) ordinal ≡ false → on-ordinal ≡ judgeOrdinal system year ordinal
@@ -82,7 +89,7 @@ module _ (system year month leap day : ℕ) (m : Month) (e : m ≡ monthOf syste
   pub month-refused : (m .refusal ≡ 0 → ⊥) → refuse (m .refusal) ≡ judgeDay system year month leap day
   month-refused h = refused-by (m .refusal) false (unlessWrong (outside 1 (m .length) day) on-day) h ∙ in-month
 
-  pub day-wrong : m .refusal ≡ 0 → outside 1 (m .length) day ≡ true → refuse 7 ≡ judgeDay system year month leap day
+  pub day-wrong : m .refusal ≡ 0 → outside 1 (m .length) day ≡ true → refuse DAY ≡ judgeDay system year month leap day
   day-wrong h w = wrong-place (m .refusal) (outside 1 (m .length) day) on-day h w ∙ in-month
 
   pub day-right : m .refusal ≡ 0 → outside 1 (m .length) day ≡ false → on-day ≡ judgeDay system year month leap day
@@ -106,10 +113,10 @@ module _ (system year month leap name : ℕ) (m : Month) (e : m ≡ monthOf syst
   pub name-month-refused : (m .refusal ≡ 0 → ⊥) → refuse (m .refusal) ≡ judgeName system year month leap name
   name-month-refused h = refused-by (m .refusal) false (unlessWrong name-wrong on-name) h ∙ name-in-month
 
-  pub no-name : m .refusal ≡ 0 → 59 < name → refuse 7 ≡ judgeName system year month leap name
+  pub no-name : m .refusal ≡ 0 → 59 < name → refuse DAY ≡ judgeName system year month leap name
   no-name z h = wrong-place (m .refusal) name-wrong on-name z (simp (lt-ltb 59 name h)) ∙ name-in-month
 
-  pub name-past : m .refusal ≡ 0 → name ≤ 59 → m .length ≤ days → refuse 7 ≡ judgeName system year month leap name
+  pub name-past : m .refusal ≡ 0 → name ≤ 59 → m .length ≤ days → refuse DAY ≡ judgeName system year month leap name
   name-past z h l =
       wrong-place (m .refusal) name-wrong on-name z (simp (le-ltb 59 name h, le-leb (m .length) days l)) ∙ name-in-month
 
@@ -126,60 +133,110 @@ module _ (system year month leap name : ℕ) (m : Month) (e : m ≡ monthOf syst
       ap (λ n. accept (m .head .0 + (name + 60 - n) % 60) system year month leap ((name + 60 - n) % 60 + 1)) is
       ∙ name-right z h (omega arith)
 
--- Which judgement a kind gets.
+-- Which judgement a kind gets, from what was read of the fields.
+module _ (s : List ℕ) {j : Judgement} {system : ℕ} (system-is : system ≡ systemOf s) where
+  pub kind-one : {year month leap day : ℕ} → kindOf s ≡ 1 → j ≡ judgeDay system year month leap day
+      → year ≡ yearField s
+      → month ≡ monthField s
+      → leap ≡ leapField s
+      → day ≡ dayField s
+      → j ≡ judgeKind s
+  unfolding judgeKind
+  kind-one k e year month leap day =
+      e ∙ (λ i. judgeDay (system-is i) (year i) (month i) (leap i) (day i)) ∙ simp (eq-eqb (kindOf s) 1 k)
+
+  pub kind-two : {year month leap name : ℕ} → kindOf s ≡ 2 → j ≡ judgeName system year month leap name
+      → year ≡ yearField s
+      → month ≡ monthField s
+      → leap ≡ leapField s
+      → name ≡ nameField s
+      → j ≡ judgeKind s
+  unfolding judgeKind
+  kind-two k e year month leap name =
+      e
+      ∙ (λ i. judgeName (system-is i) (year i) (month i) (leap i) (name i))
+      ∙ simp (ne-eqb (kindOf s) 1 (omega arith), eq-eqb (kindOf s) 2 k)
+
+  pub kind-three : {year ordinal : ℕ} → kindOf s ≡ 3 → j ≡ judgeOrdinal system year ordinal
+      → year ≡ yearField s
+      → ordinal ≡ ordinalField s
+      → j ≡ judgeKind s
+  unfolding judgeKind
+  kind-three k e year ordinal =
+      e
+      ∙ (λ i. judgeOrdinal (system-is i) (year i) (ordinal i))
+      ∙ simp (ne-eqb (kindOf s) 1 (omega arith), ne-eqb (kindOf s) 2 (omega arith), eq-eqb (kindOf s) 3 k)
+
+  pub kind-four : {r : ℕ} → kindOf s ≡ 4 → j ≡ judgeRegisterDay system r → r ≡ registerDayField s → j ≡ judgeKind s
+  unfolding judgeKind
+  kind-four k e r =
+      e
+      ∙ (λ i. judgeRegisterDay (system-is i) (r i))
+      ∙ simp (ne-eqb (kindOf s) 1 (omega arith), ne-eqb (kindOf s) 2 (omega arith), ne-eqb (kindOf s) 3 (omega arith))
+
+-- The length field, as read, against the length of the kind.
+module _ (s : List ℕ) {field size : ℕ} (field-is : field ≡ lengthField s) (size-is : size ≡ kindLength (kindOf s)) where
+  pub field-wrong : (field ≡ size → ⊥) → eqb field size ≡ lengthRight s
+  unfolding lengthRight
+  field-wrong h = simp (ne-eqb field size h, ne-eqb (lengthField s) (kindLength (kindOf s)) (λ e. h (field-is ∙ e ∙ sym size-is)))
+
+  pub field-right : field ≡ size → eqb (length s) size ≡ lengthRight s
+  unfolding lengthRight
+  field-right h =
+      let same = sym h ∙ field-is in
+      simp (same, eq-eqb (lengthField s) (kindLength (kindOf s)) (sym same ∙ size-is))
+
 module _ (s : List ℕ) where
-  pub kind-one : kindOf s ≡ 1 → judgeDay (systemOf s) (yearField s) (monthField s) (leapField s) (dayField s) ≡ judgeKind s
-  unfolding judgeKind
-  kind-one e = simp (eq-eqb (kindOf s) 1 e)
+  -- A record's lengths are wrong or right.
+  pub by-length : {P : Type 0} → (lengthRight s ≡ false → WrongLength s → P)
+      → (lengthRight s ≡ true → (lengthField s ≡ kindLength (kindOf s)) × (length s ≡ lengthField s) → P)
+      → P
+  unfolding lengthRight
+  by-length wrong right =
+      by-equal (lengthField s) (kindLength (kindOf s))
+      (λ f.
+      by-equal (length s) (lengthField s)
+      (λ g. right (simp (eq-eqb (lengthField s) (kindLength (kindOf s)) f, eq-eqb (length s) (lengthField s) g)) (f, g))
+      (λ g.
+      wrong (simp (eq-eqb (lengthField s) (kindLength (kindOf s)) f, ne-eqb (length s) (lengthField s) g)) (λ p. g (p .1))))
+      (λ f. wrong (simp (ne-eqb (lengthField s) (kindLength (kindOf s)) f)) (λ p. f (p .0)))
 
-  pub kind-two : kindOf s ≡ 2 → judgeName (systemOf s) (yearField s) (monthField s) (leapField s) (nameField s) ≡ judgeKind s
-  unfolding judgeKind
-  kind-two e = simp (ne-eqb (kindOf s) 1 (omega arith), eq-eqb (kindOf s) 2 e)
+  right-length : lengthRight s ≡ true → length s ≡ kindLength (kindOf s)
+  right-length e = by-length (λ w none. absurd (true≢false (sym e ∙ w))) (λ r p. p .1 ∙ p .0)
 
-  pub kind-three : kindOf s ≡ 3 → judgeOrdinal (systemOf s) (yearField s) (ordinalField s) ≡ judgeKind s
-  unfolding judgeKind
-  kind-three e = simp (ne-eqb (kindOf s) 1 (omega arith), ne-eqb (kindOf s) 2 (omega arith), eq-eqb (kindOf s) 3 e)
-
-  pub kind-four : kindOf s ≡ 4 → judgeRegisterDay (systemOf s) (registerDayField s) ≡ judgeKind s
-  unfolding judgeKind
-  kind-four e = simp (ne-eqb (kindOf s) 1 (omega arith), ne-eqb (kindOf s) 2 (omega arith), ne-eqb (kindOf s) 3 (omega arith))
-
-  -- The first three refusals, in their order.
-  pub too-short : length s < 4 → refuse 1 ≡ judgeOf s
+-- The first three refusals, in their order, from what was read of the kind.
+module _ (s : List ℕ) {j : Judgement} where
+  pub too-short : length s < 4 → j ≡ refuse SHORT → j ≡ judgeOf s
   unfolding judgeOf
-  too-short h = simp (lt-ltb (length s) 4 h)
+  too-short h e = e ∙ simp (lt-ltb (length s) 4 h)
 
-  pub wrong-kind : 4 ≤ length s → outside 1 4 (kindOf s) ≡ true → refuse 2 ≡ judgeOf s
+module _ (s : List ℕ) {kind : ℕ} (is-kind : kind ≡ kindOf s) (long : 4 ≤ length s) where
+  pub wrong-kind : {j : Judgement} → (Inside 1 4 kind → ⊥) → j ≡ refuse KIND → j ≡ judgeOf s
   unfolding judgeOf
-  wrong-kind h e = simp (le-ltb (length s) 4 h, e)
+  wrong-kind h e =
+      let out = outside-of 1 4 (kindOf s) (λ i. h (subst (Inside 1 4) (sym is-kind) i)) in
+      e ∙ simp (le-ltb (length s) 4 long, out)
 
-  pub wrong-field : 4 ≤ length s → outside 1 4 (kindOf s) ≡ false → (lengthField s ≡ kindLength (kindOf s) → ⊥)
-      → refuse 3 ≡ judgeOf s
-  unfolding judgeOf
-  wrong-field h e f = simp (le-ltb (length s) 4 h, e, ne-eqb (lengthField s) (kindLength (kindOf s)) f)
+  kind-inside : Inside 1 4 kind → outside 1 4 (kindOf s) ≡ false
+  kind-inside i = inside 1 4 (kindOf s) (subst (Inside 1 4) is-kind i)
 
-  pub wrong-size : 4 ≤ length s → outside 1 4 (kindOf s) ≡ false → lengthField s ≡ kindLength (kindOf s)
-      → (length s ≡ lengthField s → ⊥)
-      → refuse 3 ≡ judgeOf s
+  pub wrong-length : {j : Judgement} → Inside 1 4 kind → lengthRight s ≡ false → j ≡ refuse LENGTH → j ≡ judgeOf s
   unfolding judgeOf
-  wrong-size h e f g =
-      simp (le-ltb (length s) 4 h, e, eq-eqb (lengthField s) (kindLength (kindOf s)) f, ne-eqb (length s) (lengthField s) g)
+  wrong-length i l e = e ∙ simp (le-ltb (length s) 4 long, kind-inside i, l)
 
-  pub right-size : 4 ≤ length s → outside 1 4 (kindOf s) ≡ false → lengthField s ≡ kindLength (kindOf s)
-      → length s ≡ lengthField s
-      → judgeKind s ≡ judgeOf s
+  pub right-record : {j : Judgement} → Inside 1 4 kind → lengthRight s ≡ true → j ≡ judgeKind s → j ≡ judgeOf s
   unfolding judgeOf
-  right-size h e f g =
-      simp (le-ltb (length s) 4 h, e, eq-eqb (lengthField s) (kindLength (kindOf s)) f, eq-eqb (length s) (lengthField s) g)
+  right-record i l e = e ∙ simp (le-ltb (length s) 4 long, kind-inside i, l)
 
   -- A record as long as its kind.
-  pub whole : (kind : ℕ) → kind ≡ kindOf s → outside 1 4 kind ≡ false → length s ≡ kindLength kind → Whole s kind
-  whole kind k e l =
+  pub whole : Inside 1 4 kind → lengthRight s ≡ true → Whole s kind
+  whole i right =
+      let l = right-length s right ∙ ap kindLength (sym is-kind) in
       record {
-        is-kind = k;
-        one-to-four = inside-of 1 4 kind e;
+        is-kind = is-kind;
+        one-to-four = i;
         nine = by-order 2 kind (λ h. omega (arith, l ∙ nine-bytes h)) (λ h. omega (arith, l ∙ ten-bytes h));
-        ten = λ h. omega (arith, l ∙ ten-bytes h);
+        ten = by-order 2 kind (λ h. omega (arith, l ∙ nine-bytes h)) (λ h. omega (arith, l ∙ ten-bytes h));
       }
     where
       ten-bytes : kind ≤ 2 → kindLength kind ≡ 10
@@ -187,8 +244,3 @@ module _ (s : List ℕ) where
 
       nine-bytes : 2 < kind → kindLength kind ≡ 9
       nine-bytes h = simp (lt-leb kind 2 h)
-
--- Equal numbers are judged alike.
-pub alike₅ : (f : ℕ → ℕ → ℕ → ℕ → ℕ → Judgement) {a b c d e a′ b′ c′ d′ e′ : ℕ}
-    → a ≡ a′ → b ≡ b′ → c ≡ c′ → d ≡ d′ → e ≡ e′ → f a b c d e ≡ f a′ b′ c′ d′ e′
-alike₅ f p q r s t = λ i. f (p i) (q i) (r i) (s i) (t i)

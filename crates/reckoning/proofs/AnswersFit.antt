@@ -12,9 +12,9 @@ use Rattle.reckoning.specs.declared.data.Month.{Month}
 use Rattle.reckoning.specs.declared.data.Days.{Days}
 use Rattle.reckoning.specs.Requests.{daysOf, monthOf}
 use Rattle.reckoning.specs.Outcomes.{DaysOutcome, MonthOutcome}
-use Rattle.reckoning.proofs.Scope.{reach}
-use Rattle.reckoning.proofs.InReach.{first-head}
-use Rattle.reckoning.proofs.Outcomes.{days-outcome, month-outcome}
+use Rattle.reckoning.proofs.ScopeInRegister.{year-in-register}
+use Rattle.reckoning.proofs.RegisterLaws.{first-head}
+use Rattle.reckoning.proofs.RequestsEnd.{days-outcome, month-outcome}
 
 pub record MonthFits (v : Month) : Type 0 where
   pub head-small : v .head .0 < 2 ^ 31
@@ -29,9 +29,9 @@ month-fits system year number leap v e z = go (subst (MonthOutcome system year n
     go (MonthOutcome.month-refused s w f) = absurd (omega (arith, ap (λ m. m .refusal) f))
     go (MonthOutcome.found m) =
         let c = constantsOf system in
-        let w = within c (consistent system) (yearsElapsed c year) (m .k) (m .named .in-year) in
+        let w = within c (consistent system) (yearsElapsed c year) (m .k) (m .numbered .in-year) in
         record {
-          head-small = omega (arith, (reach system year (m .in-scope .year-inside)) .head (m .k) (w .0) (omega arith));
+          head-small = omega (arith, (year-in-register system year (m .in-scope .year-inside)) .head (m .k) (w .0) (omega arith));
           length-most = omega (arith, (reckoned c (consistent system)) .month-most (m .k));
         }
 
@@ -49,7 +49,7 @@ days-fit system year v e z = go (subst (DaysOutcome system year) (sym e) (days-o
         let c = constantsOf system in
         let n = yearsElapsed c year in
         let ok = consistent system in
-        let head = first-head c n (reach system year (y .in-scope .year-inside)) in
+        let head = first-head c n (year-in-register system year (y .in-scope .year-inside)) in
         record {
           head-small = omega (arith, head, ap (monthHead c) (span-first c ok (y .span)));
           length-most = omega (arith, year-length-most c ok (y .span));

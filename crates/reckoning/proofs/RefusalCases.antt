@@ -7,7 +7,8 @@ use native.Mathlib.Omega.{arith}
 use borrow.Author.Tests.{ltb-false, lt-ltb, le-ltb}
 use Rattle.calendar.specs.Inside.{Inside}
 use Rattle.reckoning.specs.Scope.{SystemInScope, YearInScope, InScope}
-use Rattle.reckoning.specs.Refusal.{outside, yearRefusal, qiRefusal}
+use Rattle.reckoning.specs.ComputedRefusals.{outside, yearRefusal, qiRefusal}
+use Rattle.reckoning.specs.RefusalNumbers.{SYSTEM, YEAR, QI}
 
 -- Where no rule gave a number, the first did not apply, nor did any other.
 pub passed : (number : ℕ) (b : Bool) (rest : ℕ) → 0 < number → cond b number rest ≡ 0 → (b ≡ false) × (rest ≡ 0)
@@ -29,15 +30,15 @@ inside least most x h = simp (le-ltb x least (h .at-least), le-ltb most x (h .at
 pub accepted : (system year : ℕ) → yearRefusal system year ≡ 0 → InScope system year
 unfolding yearRefusal
 accepted system year e =
-    let four = passed 4 (outside 1 2 system) (cond (outside 1 3000 year) 5 0) (omega arith) e in
-    let five = passed 5 (outside 1 3000 year) 0 (omega arith) (four .1) in
-    record { system-inside = inside-of 1 2 system (four .0); year-inside = inside-of 1 3000 year (five .0) }
+    let system-right = passed SYSTEM (outside 1 2 system) (cond (outside 1 3000 year) YEAR 0) (omega arith) e in
+    let year-right = passed YEAR (outside 1 3000 year) 0 (omega arith) (system-right .1) in
+    record { system-inside = inside-of 1 2 system (system-right .0); year-inside = inside-of 1 3000 year (year-right .0) }
 
 pub in-scope : (system year : ℕ) → InScope system year → yearRefusal system year ≡ 0
 unfolding yearRefusal
 in-scope system year s = simp (inside 1 2 system (s .system-inside), inside 1 3000 year (s .year-inside))
 
-not-inside : (least most x : ℕ) → outside least most x ≡ true → Inside least most x → ⊥
+pub not-inside : (least most x : ℕ) → outside least most x ≡ true → Inside least most x → ⊥
 not-inside least most x e h = true≢false (sym e ∙ inside least most x h)
 
 -- A number is in its range or not.
@@ -50,19 +51,22 @@ by-inside {P} least most x out into = go (outside least most x) refl
     go true e = out e (not-inside least most x e)
     go false e = into e (inside-of least most x e)
 
--- A request by system and year is refused 4, refused 5, or in scope.
+pub outside-of : (least most x : ℕ) → (Inside least most x → ⊥) → outside least most x ≡ true
+outside-of least most x h = by-inside least most x (λ e out. e) (λ e into. absurd (h into))
+
+-- A request by system and year is refused SYSTEM, refused YEAR, or in scope.
 pub by-scope : {P : Type 0} (system year : ℕ)
-    → ((SystemInScope system → ⊥) → yearRefusal system year ≡ 4 → P)
-    → (SystemInScope system → (YearInScope year → ⊥) → yearRefusal system year ≡ 5 → P)
+    → ((SystemInScope system → ⊥) → yearRefusal system year ≡ SYSTEM → P)
+    → (SystemInScope system → (YearInScope year → ⊥) → yearRefusal system year ≡ YEAR → P)
     → (InScope system year → P)
     → P
 unfolding yearRefusal
-by-scope system year four five scope =
+by-scope system year no-such-system no-such-year scope =
     by-inside 1 2 system
-    (λ e no-system. four no-system (simp e))
+    (λ e outside-systems. no-such-system outside-systems (simp e))
     (λ e system-inside.
     by-inside 1 3000 year
-    (λ f no-year. five system-inside no-year (simp (e, f)))
+    (λ f outside-years. no-such-year system-inside outside-years (simp (e, f)))
     (λ f year-inside. scope (record { system-inside = system-inside; year-inside = year-inside })))
 
 -- The rule for a qi number is looked at only where system and year are in scope.
@@ -70,13 +74,13 @@ pub qi-unseen : (system year i : ℕ) → (yearRefusal system year ≡ 0 → ⊥
 unfolding yearRefusal qiRefusal
 qi-unseen system year i h = either (outside 1 2 system) (outside 1 3000 year) h
   where
-    either : (a b : Bool) → (_≡_ {A = ℕ} (cond a 4 (cond b 5 0)) 0 → ⊥)
-        → _≡_ {A = ℕ} (cond a 4 (cond b 5 0)) (cond a 4 (cond b 5 (cond (ltb 23 i) 9 0)))
+    either : (a b : Bool) → (_≡_ {A = ℕ} (cond a SYSTEM (cond b YEAR 0)) 0 → ⊥)
+        → _≡_ {A = ℕ} (cond a SYSTEM (cond b YEAR 0)) (cond a SYSTEM (cond b YEAR (cond (ltb 23 i) QI 0)))
     either true b h = refl
     either false true h = refl
     either false false h = absurd (h refl)
 
-pub qi-seen : (system year i : ℕ) → yearRefusal system year ≡ 0 → _≡_ {A = ℕ} (cond (ltb 23 i) 9 0) (qiRefusal system year i)
+pub qi-seen : (system year i : ℕ) → yearRefusal system year ≡ 0 → _≡_ {A = ℕ} (cond (ltb 23 i) QI 0) (qiRefusal system year i)
 unfolding qiRefusal
 qi-seen system year i e =
     let s = accepted system year e in
@@ -85,11 +89,11 @@ qi-seen system year i e =
 pub accepted-qi : (system year i : ℕ) → qiRefusal system year i ≡ 0 → InScope system year × (i ≤ 23)
 unfolding qiRefusal
 accepted-qi system year i e =
-    let four = passed 4 (outside 1 2 system) (cond (outside 1 3000 year) 5 (cond (ltb 23 i) 9 0)) (omega arith) e in
-    let five = passed 5 (outside 1 3000 year) (cond (ltb 23 i) 9 0) (omega arith) (four .1) in
-    let nine = passed 9 (ltb 23 i) 0 (omega arith) (five .1) in (
-      record { system-inside = inside-of 1 2 system (four .0); year-inside = inside-of 1 3000 year (five .0) },
-      ltb-false 23 i (nine .0),
+    let system-right = passed SYSTEM (outside 1 2 system) (cond (outside 1 3000 year) YEAR (cond (ltb 23 i) QI 0)) (omega arith) e in
+    let year-right = passed YEAR (outside 1 3000 year) (cond (ltb 23 i) QI 0) (omega arith) (system-right .1) in
+    let qi-right = passed QI (ltb 23 i) 0 (omega arith) (year-right .1) in (
+      record { system-inside = inside-of 1 2 system (system-right .0); year-inside = inside-of 1 3000 year (year-right .0) },
+      ltb-false 23 i (qi-right .0),
     )
 
 pub in-scope-qi : (system year i : ℕ) → InScope system year → i ≤ 23 → qiRefusal system year i ≡ 0
@@ -97,7 +101,7 @@ unfolding qiRefusal
 in-scope-qi system year i s h =
     simp (inside 1 2 system (s .system-inside), inside 1 3000 year (s .year-inside), le-ltb 23 i h)
 
-pub qi-nine : (system year i : ℕ) → InScope system year → 23 < i → qiRefusal system year i ≡ 9
+pub qi-refused : (system year i : ℕ) → InScope system year → 23 < i → qiRefusal system year i ≡ QI
 unfolding qiRefusal
-qi-nine system year i s h =
+qi-refused system year i s h =
     simp (inside 1 2 system (s .system-inside), inside 1 3000 year (s .year-inside), lt-ltb 23 i h)

@@ -7,14 +7,14 @@ use Rattle.calendar.specs.ClosedForms.{firstMonth, headOfYear}
 use Rattle.calendar.specs.Consistent.{Consistent}
 use Rattle.calendar.specs.Calendar.{Calendar}
 use Rattle.calendar.proofs.Reckoned.{reckoned}
-use Rattle.calendar.proofs.Months.{count-least, count-most, head-monotone}
+use Rattle.calendar.proofs.EveryCalendar.{count-least, count-most, head-monotone}
 use Rattle.calendar.proofs.Spans.{span}
 use Rattle.calendar.proofs.Laws.{year-length-most}
-use Rattle.reckoning.specs.Room.{Registered, Reach, Listed}
+use Rattle.reckoning.specs.WordBounds.{InRegister, YearInRegister, MonthsInRegister}
 
-module _ (c : Constants) (n : ℕ) (r : Reach c n) where
+module _ (c : Constants) (n : ℕ) (r : YearInRegister c n) where
   abbrev ok : Consistent c
-  ok = r .room .consistent
+  ok = r .constants-fit .consistent
 
   abbrev K : Calendar
   K = reckoned c ok
@@ -23,21 +23,21 @@ module _ (c : Constants) (n : ℕ) (r : Reach c n) where
   first-small = omega (arith, count-least K n, r .months)
 
   -- its months can be listed
-  pub listed : Listed c (firstMonth c n) (firstMonth c (n + 1) - firstMonth c n)
-  listed =
+  pub months-in-register : MonthsInRegister c (firstMonth c n) (firstMonth c (n + 1) - firstMonth c n)
+  months-in-register =
       let least = count-least K n in
       let most = count-most K n in
       record {
-        room = r .room;
+        constants-fit = r .constants-fit;
         first-small = first-small;
         count-most = omega arith;
         head = λ i h. r .head (firstMonth c n + i) (omega arith) (omega arith);
       }
 
-  pub first-head : Registered c (headOfYear c n)
+  pub first-head : InRegister c (headOfYear c n)
   first-head = r .head (firstMonth c n) (omega arith) (omega (arith, count-least K n))
 
-  pub next-head : Registered c (headOfYear c (n + 1))
+  pub next-head : InRegister c (headOfYear c (n + 1))
   next-head = r .head (firstMonth c (n + 1)) (omega (arith, count-least K n)) (omega arith)
 
   length-most : headOfYear c (n + 1) ≤ headOfYear c n + 384

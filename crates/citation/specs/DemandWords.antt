@@ -10,16 +10,16 @@ use Rattle.calendar.specs.Systems.{constantsOf}
 use Rattle.calendar.specs.Month.{InMonth, monthLength, HoldsSome, Lacks}
 use Rattle.calendar.specs.Year.{Span, monthCount, InYear, DayOfYear}
 use Rattle.citation.specs.Record.{Bytes, kindOf, systemOf}
-use Rattle.citation.specs.Named.{Names}
-use Rattle.citation.specs.Refused.{Accepted}
+use Rattle.citation.specs.DayCited.{NamesDay}
+use Rattle.citation.specs.CitationRefusals.{Accepted}
 use Rattle.citation.specs.Store.{storedInto}
 
 -- A stored record: the first ten bytes of the output after a storing.
 abbrev pub stored : List ℕ → List ℕ → List ℕ
 stored s before = take 10 (storedInto s before)
 
--- Count day d has one stored record in a system. It is bytes, an accepted citation of kind 1 for that day; whatever accepted
--- citation names the day is stored as it; and no other citation of kind 1 names the day in that system.
+-- Count day d has one stored record in a system. It is bytes, an accepted citation of kind 1 for that day; whatever
+-- accepted citation names the day is stored as it; and no other citation of kind 1 names the day in that system.
 pub record OneRecord (system d : ℕ) : Type 0 where
   pub day : ℕ
   pub is-day : day + constantsOf system .anchor ≡ d
@@ -28,9 +28,9 @@ pub record OneRecord (system d : ℕ) : Type 0 where
   pub accepted : Accepted it
   pub is-kind-one : kindOf it ≡ 1
   pub in-system : systemOf it ≡ system
-  pub names : Names it day
-  pub every-storing : (s before : List ℕ) → Accepted s → 10 ≤ length before → systemOf s ≡ system → Names s day → stored s before ≡ it
-  pub no-other : (t : List ℕ) → Bytes t → Accepted t → kindOf t ≡ 1 → systemOf t ≡ system → Names t day → t ≡ it
+  pub names : NamesDay it day
+  pub every-storing : (s before : List ℕ) → Accepted s → 10 ≤ length before → systemOf s ≡ system → NamesDay s day → stored s before ≡ it
+  pub no-other : (t : List ℕ) → Bytes t → Accepted t → kindOf t ≡ 1 → systemOf t ≡ system → NamesDay t day → t ≡ it
 
 -- How the months of year n tile it.
 pub record MonthsTile (c : Constants) (n : ℕ) : Type 0 where

@@ -8,13 +8,13 @@ use borrow.Author.Tests.{eq-eqb, ne-eqb}
 use Rattle.calendar.specs.declared.data.Constants.{Constants}
 use Rattle.reckoning.specs.declared.asked.Asked.{Asked}
 use Rattle.calendar.specs.Systems.{guantian, jiyuan, constantsOf, yearsElapsed}
-use Rattle.reckoning.specs.Refusal.{yearRefusal}
-use Rattle.reckoning.proofs.Refusals.{in-scope, accepted}
+use Rattle.reckoning.specs.ComputedRefusals.{yearRefusal}
+use Rattle.reckoning.proofs.RefusalCases.{in-scope, accepted}
 use Rattle.reckoning.specs.Asked.{askedOf}
 use Rattle.reckoning.specs.Requests.{answerUnless}
-use Rattle.reckoning.specs.Room.{Reach}
+use Rattle.reckoning.specs.WordBounds.{YearInRegister}
 use Rattle.reckoning.specs.Scope.{InScope}
-use Rattle.reckoning.proofs.Scope.{reach}
+use Rattle.reckoning.proofs.ScopeInRegister.{year-in-register}
 
 module _ {A : Type 0} (answer : Constants → ℕ → A) (blank : ℕ → A) where
   abbrev answer-to : Asked → A
@@ -59,12 +59,12 @@ pub picks-jiyuan : (system : ℕ) → (system ≡ 1 → ⊥) → constantsOf sys
 picks-jiyuan system h = simp (ne-eqb system 1 h)
 
 pub reach-here : (system year : ℕ) (c : Constants) → constantsOf system ≡ c → yearRefusal system year ≡ 0
-    → Reach c (yearsElapsed c year)
+    → YearInRegister c (yearsElapsed c year)
 reach-here system year c e z =
-    subst (λ k. Reach k (yearsElapsed k year)) e (reach system year ((accepted system year z) .year-inside))
+    subst (λ k. YearInRegister k (yearsElapsed k year)) e (year-in-register system year ((accepted system year z) .year-inside))
 
 -- What is asked in scope lies within the register.
 pub within-reach : (a : Asked) (refusal system year : ℕ) → a ≡ askedOf refusal system year → InScope system year
-    → Reach (a .c) (a .n)
+    → YearInRegister (a .c) (a .n)
 within-reach a refusal system year e s =
-    subst (λ x. Reach (x .c) (x .n)) (sym e) (reach system year (s .year-inside))
+    subst (λ x. YearInRegister (x .c) (x .n)) (sym e) (year-in-register system year (s .year-inside))

@@ -1,4 +1,5 @@
--- Numbered refusals of paper 01 as they are computed: rules in the table's order, of which the first that applies counts.
+-- Numbered refusals of paper 01 as they are computed: rules in the table's order, of which the first that applies
+-- counts.
 use Prim.Native.Nat.{ℕ, _+_}
 use mathlib.Core.Bool.{Bool, cond, not, _&&_, _||_}
 use mathlib.Core.List.{List, [], _∷_}
@@ -6,6 +7,7 @@ use lib.Dec.{ltb, leb, eqb}
 use Rattle.calendar.specs.declared.data.Constants.{Constants}
 use Rattle.calendar.specs.Systems.{yearsElapsed}
 use Rattle.calendar.specs.ClosedForms.{headOfYear, leapFollows}
+use Rattle.reckoning.specs.RefusalNumbers.{SYSTEM, YEAR, QI}
 
 infixl 20 _if_
 -- A refusal's number, and whether it applies.
@@ -21,29 +23,29 @@ first ((number if applies) ∷ rules) = cond applies number (first rules)
 abbrev pub outside : ℕ → ℕ → ℕ → Bool
 outside least most x = ltb x least || ltb most x
 
--- Refusals 4, 5 and 9.
+-- Refusals SYSTEM, YEAR and QI.
 abbrev pub wrongSystem : ℕ → Rule
-wrongSystem system = 4 if outside 1 2 system
+wrongSystem system = SYSTEM if outside 1 2 system
 
 abbrev pub wrongYear : ℕ → Rule
-wrongYear year = 5 if outside 1 3000 year
+wrongYear year = YEAR if outside 1 3000 year
 
 abbrev pub wrongQi : ℕ → Rule
-wrongQi i = 9 if ltb 23 i
+wrongQi i = QI if ltb 23 i
 
--- A direct request by system and year is refused 4, then 5,
+-- A direct request by system and year is refused SYSTEM, then YEAR,
 unfoldable pub yearRefusal : ℕ → ℕ → ℕ
 yearRefusal system year = first (wrongSystem system ∷ wrongYear year ∷ [])
 
--- and then 9 where a qi is asked.
+-- and then QI where a qi is asked.
 unfoldable pub qiRefusal : ℕ → ℕ → ℕ → ℕ
 qiRefusal system year i = first (wrongSystem system ∷ wrongYear year ∷ wrongQi i ∷ [])
 
--- Refusal 6: a number or mark that no month has, or a mark on a month that no leap month follows in year n.
+-- Refusal MONTH: a number or mark that no month has, or a mark on a month that no leap month follows in year n.
 abbrev pub monthWrong : Constants → ℕ → ℕ → ℕ → Bool
 monthWrong c n number leap = outside 1 12 number || outside 0 1 leap || (eqb leap 1 && not (leapFollows c n number))
 
--- Refusal 7, of a register day: it lies outside years 1 to 3000, which end where year 3001 begins.
+-- Refusal DAY, of a register day: it lies outside years 1 to 3000, which end where year 3001 begins.
 abbrev pub dayWrong : Constants → ℕ → Bool
 dayWrong c r =
     ltb (r + c .anchor) (headOfYear c (yearsElapsed c 1)) || leb (headOfYear c (yearsElapsed c 3001)) (r + c .anchor)

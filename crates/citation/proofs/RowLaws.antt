@@ -4,7 +4,7 @@ use mathlib.Core.Path.{_≡_, sym, _∙_}
 use mathlib.Core.Logic.{inl, inr, ⊎-elim}
 use mathlib.Core.List.{List, [], _∷_, _++_}
 use native.Mathlib.Omega.{arith}
-use Rattle.reckoning.specs.Rows.{Row, _when_, FirstOf}
+use Rattle.reckoning.specs.WordedRefusals.{Row, _when_, FirstOf}
 
 pub first-unique : (rows : List Row) (m n : ℕ) → FirstOf rows m → FirstOf rows n → m ≡ n
 first-unique [] m n p q = p ∙ sym q

@@ -6,14 +6,14 @@ use lib.Dec.{ltb}
 use native.Mathlib.Omega.{arith}
 use Rattle.calendar.specs.Month.{monthHead}
 use Rattle.calendar.specs.ClosedForms.{leapFollows}
-use Rattle.reckoning.specs.Room.{Room, Registered}
-use Rattle.reckoning.specs.Refusal.{outside}
+use Rattle.reckoning.specs.WordBounds.{ConstantsFit, InRegister}
+use Rattle.reckoning.specs.ComputedRefusals.{outside}
 use Rattle.reckoning.specs.Requests.{monthAt}
-use Rattle.reckoning.proofs.Cited.{number-wrong, mark-wrong, ordinary-month, leap-month, leap-lacks}
-use Rattle.reckoning.proofs.Cited.{ordinary-registered, leap-registered}
+use Rattle.reckoning.proofs.MonthRequest.{number-wrong, mark-wrong, ordinary-month, leap-month, leap-lacks}
+use Rattle.reckoning.proofs.MonthRequest.{ordinary-registered, leap-registered}
 use borrow.Author.Needs.{needs}
-use Rattle.reckoning.proofs.months.cited.Statement.{statement}
-use Rattle.reckoning.proofs.months.cited.Tie as tie
+use Rattle.reckoning.proofs.months.month_of_year.Statement.{statement}
+use Rattle.reckoning.proofs.months.month_of_year.Tie as tie
 
 number-inside : (c : tie.Else1) → outside 1 12 (c .before .before .args .number) ≡ false
 number-inside c = sym (c .before .outside .ensures) ∙ c .if1 .left
@@ -25,7 +25,7 @@ mark-inside c = sym (c .before .outside2 .ensures) ∙ c .if2 .left
 registered : (c : tie.After-month-of-qi) →
     let k = c .month-of-qi .result in
     let constants = c .before .before .before .before .before .args .c in
-    Room constants × (k + 1 < 2 ^ 32) × Registered constants (monthHead constants k)
+    ConstantsFit constants × (k + 1 < 2 ^ 32) × InRegister constants (monthHead constants k)
 registered c =
     let start = c .before .before .before .before .before in
     ordinary-registered _ _ (start .pre) (start .args .number) _ (c .month-of-qi .ensures)
@@ -120,8 +120,8 @@ returns-5 c =
     let lacks = months-told next ∙ le-ltb _ _ (c .before .if4 .left) in
     c .none3 .ensures ∙ leap-lacks _ _ _ _ (number-inside (inside .before .before)) (mark-inside inside) (next .before .if3 .left) lacks
 
-pub cited-spec : {M : Type 1} → statement M
-cited-spec =
+pub month-of-year-spec : {M : Type 1} → statement M
+month-of-year-spec =
     tie.close
     (tie.spec
     outside-requires

@@ -5,25 +5,25 @@ use native.Mathlib.Omega.{arith}
 use lib.ListN.{getD-replicate}
 use Rattle.calendar.specs.declared.data.Constants.{Constants}
 use Rattle.calendar.specs.Systems.{constantsOf, yearsElapsed, registerDay}
-use Rattle.calendar.specs.Name.{nameOf}
+use Rattle.calendar.specs.SixtyDayName.{nameOf}
 use Rattle.calendar.specs.Qi.{qi, dayOf, partsOf, unitsOf}
 use Rattle.calendar.specs.ClosedForms.{headOfYear}
 use Rattle.calendar.proofs.EachSystem.{consistent}
 use Rattle.calendar.proofs.Spans.{span}
 use Rattle.calendar.proofs.Steps.{told}
-use Rattle.calendar.proofs.Names.{names-agree}
+use Rattle.calendar.proofs.NameLaws.{names-agree}
 use Rattle.reckoning.specs.Scope.{InScope}
-use Rattle.reckoning.specs.Refusal.{yearRefusal, qiRefusal}
+use Rattle.reckoning.specs.ComputedRefusals.{yearRefusal, qiRefusal}
 use Rattle.reckoning.specs.Asked.{askedOf}
-use Rattle.reckoning.specs.Room.{Reach}
+use Rattle.reckoning.specs.WordBounds.{YearInRegister}
 use Rattle.reckoning.specs.Requests.{solsticeIn, noSolstice, solsticeOf, qiIn, noQi, qiOf}
 use Rattle.reckoning.specs.Requests.{nameAt, noNames, sheetIn, noSheet, sheetOf}
-use Rattle.reckoning.specs.Held.{IsSolstice, IsQi, IsSheet}
-use Rattle.reckoning.proofs.Fill.{filled-below, filled-past, filled-length}
-use Rattle.reckoning.proofs.Refusals.{in-scope, in-scope-qi}
-use Rattle.reckoning.proofs.Scope.{reach}
-use Rattle.reckoning.proofs.Answers.{answered}
-use Rattle.reckoning.proofs.InReach.{first-head, next-head, register-length-most}
+use Rattle.reckoning.specs.AnswerMeanings.{IsSolstice, IsQi, IsSheet}
+use Rattle.reckoning.proofs.FilledLaws.{filled-below, filled-past, filled-length}
+use Rattle.reckoning.proofs.RefusalCases.{in-scope, in-scope-qi}
+use Rattle.reckoning.proofs.ScopeInRegister.{year-in-register}
+use Rattle.reckoning.proofs.AnswerUnless.{answered}
+use Rattle.reckoning.proofs.RegisterLaws.{first-head, next-head, register-length-most}
 
 module _ (system year : ℕ) (s : InScope system year) where
   abbrev c : Constants
@@ -32,8 +32,8 @@ module _ (system year : ℕ) (s : InScope system year) where
   abbrev n : ℕ
   n = yearsElapsed c year
 
-  r : Reach c n
-  r = reach system year (s .year-inside)
+  r : YearInRegister c n
+  r = year-in-register system year (s .year-inside)
 
   pub solstice-holds : IsSolstice c n (solsticeOf system year)
   unfolding solsticeOf

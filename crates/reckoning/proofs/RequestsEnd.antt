@@ -9,35 +9,36 @@ use native.Mathlib.Omega.{arith}
 use Rattle.calendar.specs.Inside.{Inside}
 use Rattle.calendar.specs.Systems.{constantsOf, yearsElapsed}
 use Rattle.calendar.specs.Month.{monthHead}
-use Rattle.calendar.specs.Year.{Span, yearHead, nextHead, MonthNamed}
+use Rattle.calendar.specs.Year.{Span, yearHead, nextHead, MonthNumbered}
 use Rattle.calendar.specs.ClosedForms.{monthOfDay, yearOfMonth, headOfYear, monthNumber, leapMark, monthCited, leapFollows}
 use Rattle.calendar.proofs.EachSystem.{consistent}
 use Rattle.calendar.proofs.Cases.{by-bool}
 use Rattle.calendar.proofs.Rising.{by-order}
 use Rattle.calendar.proofs.Reckoned.{reckoned}
 use Rattle.calendar.proofs.Spans.{span, span-first, span-next, in-year, within}
-use Rattle.calendar.proofs.Months.{in-its-year, years-rise, year-from, year-before}
-use Rattle.calendar.proofs.Laws.{named, leap-follows, ordinary-cited, leap-cited}
+use Rattle.calendar.proofs.EveryCalendar.{in-its-year, years-rise, year-from, year-before}
+use Rattle.calendar.proofs.Laws.{numbered, leap-follows, ordinary-cited, leap-cited}
 use Rattle.reckoning.specs.Scope.{SystemInScope, InScope, DayInScope}
-use Rattle.reckoning.specs.Refusal.{yearRefusal, dayWrong}
+use Rattle.reckoning.specs.ComputedRefusals.{yearRefusal, dayWrong}
 use Rattle.reckoning.specs.Requests.{daysIn, noDays, daysOf, monthAt, noMonth, monthIn, monthOf, dateAt, dateIn, dateOf}
 use Rattle.reckoning.specs.Outcomes as O
-use Rattle.reckoning.proofs.Refusals.{by-inside, by-scope}
-use Rattle.reckoning.proofs.Scope.{reach}
-use Rattle.reckoning.proofs.Answers.{refused-year, answered-year}
-use Rattle.reckoning.proofs.InReach.{first-head, next-head}
-use Rattle.reckoning.proofs.Cited.{number-wrong, mark-wrong, ordinary-month, leap-month, leap-lacks}
+use Rattle.reckoning.specs.RefusalNumbers.{SYSTEM, YEAR}
+use Rattle.reckoning.proofs.RefusalCases.{by-inside, by-scope}
+use Rattle.reckoning.proofs.ScopeInRegister.{year-in-register}
+use Rattle.reckoning.proofs.AnswerUnless.{refused-year, answered-year}
+use Rattle.reckoning.proofs.RegisterLaws.{first-head, next-head}
+use Rattle.reckoning.proofs.MonthRequest.{number-wrong, mark-wrong, ordinary-month, leap-month, leap-lacks}
 
 pub days-outcome : (system year : ℕ) → O.DaysOutcome system year (daysOf system year)
 unfolding daysOf
 days-outcome system year =
     by-scope system year
-    (λ no-system e. O.DaysOutcome.system-refused no-system (refused-year daysIn noDays system year 4 e (omega arith)))
-    (λ s no-year e. O.DaysOutcome.year-refused s no-year (refused-year daysIn noDays system year 5 e (omega arith)))
+    (λ no-system e. O.DaysOutcome.system-refused no-system (refused-year daysIn noDays system year SYSTEM e (omega arith)))
+    (λ s no-year e. O.DaysOutcome.year-refused s no-year (refused-year daysIn noDays system year YEAR e (omega arith)))
     (λ s.
     let c = constantsOf system in
     let n = yearsElapsed c year in
-    let r = reach system year (s .year-inside) in
+    let r = year-in-register system year (s .year-inside) in
     let a = first-head c n r in
     let b = next-head c n r in
     subst (O.DaysOutcome system year) (answered-year daysIn noDays system year s)
@@ -46,14 +47,14 @@ days-outcome system year =
 
 -- A month of a year in scope, answered.
 found-month : (system year number leap k : ℕ) → InScope system year → Inside 1 12 number → Inside 0 1 leap
-    → MonthNamed (constantsOf system) (yearsElapsed (constantsOf system) year) number leap k
+    → MonthNumbered (constantsOf system) (yearsElapsed (constantsOf system) year) number leap k
     → monthAt (constantsOf system) k ≡ monthOf system year number leap
     → O.MonthOutcome system year number leap (monthOf system year number leap)
 found-month system year number leap k s a b m e =
     let c = constantsOf system in
     let n = yearsElapsed c year in
     let w = within c (consistent system) n k (m .in-year) in
-    let r = (reach system year (s .year-inside)) .head k (w .0) (omega arith) in
+    let r = (year-in-register system year (s .year-inside)) .head k (w .0) (omega arith) in
     subst (O.MonthOutcome system year number leap) e
     (O.MonthOutcome.found
     (record {
@@ -61,7 +62,7 @@ found-month system year number leap k s a b m e =
       number-inside = a;
       mark-inside = b;
       k = k;
-      named = m;
+      numbered = m;
       not-refused = refl;
       head-is = omega arith;
       length-is = refl;
@@ -85,8 +86,8 @@ month-outcome system year number leap =
     let ok = consistent system in
     let answer = month-answered system year number leap in
     by-scope system year
-    (λ no-system e. O.MonthOutcome.system-refused no-system (month-refused system year number leap 4 e (omega arith)))
-    (λ s no-year e. O.MonthOutcome.year-refused s no-year (month-refused system year number leap 5 e (omega arith)))
+    (λ no-system e. O.MonthOutcome.system-refused no-system (month-refused system year number leap SYSTEM e (omega arith)))
+    (λ s no-year e. O.MonthOutcome.year-refused s no-year (month-refused system year number leap YEAR e (omega arith)))
     (λ s.
     by-inside 1 12 number
     (λ e no-number. O.MonthOutcome.month-refused s (inl no-number) (sym (number-wrong c n number leap e ∙ answer s)))
@@ -98,14 +99,14 @@ month-outcome system year number leap =
     (λ l.
     let zero-mark : leap ≡ 0 = omega arith in
     found-month system year number leap (monthCited c n number 0) s number-inside mark-inside
-    (subst (λ x. MonthNamed c n number x (monthCited c n number 0)) (sym zero-mark) (ordinary-cited c ok n number number-inside))
+    (subst (λ x. MonthNumbered c n number x (monthCited c n number 0)) (sym zero-mark) (ordinary-cited c ok n number number-inside))
     (ap (monthAt c) (omega arith) ∙ ordinary-month c n number leap e f zero-mark ∙ answer s))
     (λ l.
     let one : leap ≡ 1 = omega arith in
     by-bool (leapFollows c n number)
     (λ g.
     found-month system year number leap (monthCited c n number 1) s number-inside mark-inside
-    (subst (λ x. MonthNamed c n number x (monthCited c n number 1)) (sym one) (leap-cited c ok n number number-inside g))
+    (subst (λ x. MonthNumbered c n number x (monthCited c n number 1)) (sym one) (leap-cited c ok n number number-inside g))
     (leap-month c n number leap e f (λ z. omega arith) g ∙ answer s))
     (λ g.
     O.MonthOutcome.month-refused s
@@ -165,7 +166,7 @@ found-date system r system-inside p =
       in-scope = record { system-inside = system-inside; year-inside = record { at-least = omega arith; at-most = omega arith } };
       day-in-scope = p;
       k = k;
-      named = subst (λ m. MonthNamed c m (monthNumber c k) (leapMark c k) k) same (named c ok n k (in-year c ok n k (in-its-year K k)));
+      numbered = subst (λ m. MonthNumbered c m (monthNumber c k) (leapMark c k) k) same (numbered c ok n k (in-year c ok n k (in-its-year K k)));
       not-refused = refl;
       in-month = (K .day-from d, K .day-before d);
       day-is = refl;

@@ -11,10 +11,11 @@ use Rattle.calendar.specs.Calendar.{Calendar}
 use Rattle.calendar.specs.ClosedForms.{monthOfDay, monthOfQi, qiOfMonth, headOfYear, yearOfMonth}
 use Rattle.calendar.proofs.Rising.{by-order}
 use Rattle.calendar.proofs.Reckoned.{reckoned}
-use Rattle.calendar.proofs.Months.{month-of-day-most, qi-of-month-most, behind-most, year-from, year-before}
-use Rattle.reckoning.specs.Room.{Room}
-use Rattle.reckoning.specs.Refusal.{outside, dayWrong}
+use Rattle.calendar.proofs.EveryCalendar.{month-of-day-most, qi-of-month-most, behind-most, year-from, year-before}
+use Rattle.reckoning.specs.WordBounds.{ConstantsFit}
+use Rattle.reckoning.specs.ComputedRefusals.{outside, dayWrong}
 use Rattle.reckoning.specs.Requests.{noDate, dateAt, dateIn, dateOf}
+use Rattle.reckoning.specs.RefusalNumbers.{DAY}
 
 -- What is known of the month k of a count day d.
 pub record Dated (c : Constants) (d k : ℕ) : Type 0 where
@@ -25,12 +26,12 @@ pub record Dated (c : Constants) (d k : ℕ) : Type 0 where
   pub head-from : monthHead c k ≤ d
   pub head-most : d < monthHead c k + 30
 
-module _ (c : Constants) (room : Room c) where
+module _ (c : Constants) (fit : ConstantsFit c) where
   abbrev K : Calendar
-  K = reckoned c (room .consistent)
+  K = reckoned c (fit .consistent)
 
   epoch : c .common ≤ c .elapsed
-  epoch = room .consistent .epoch-before
+  epoch = fit .consistent .epoch-before
 
   dated-here : (d : ℕ) → d < 2 ^ 36 → Dated c d (monthOfDay c d)
   dated-here d h =
@@ -80,22 +81,22 @@ module _ (c : Constants) (room : Room c) where
         )
 
 -- The three cases of the request, by the day's year.
-module _ (c : Constants) (room : Room c) (r k g : ℕ) (month : k ≡ monthOfDay c (r + c .anchor)) (qi : g ≡ qiOfMonth c k) where
+module _ (c : Constants) (fit : ConstantsFit c) (r k g : ℕ) (month : k ≡ monthOfDay c (r + c .anchor)) (qi : g ≡ qiOfMonth c k) where
   year-is : g / 12 ≡ yearOfMonth c (monthOfDay c (r + c .anchor))
   year-is = ap (λ x. x / 12) (qi ∙ ap (qiOfMonth c) month)
 
-  pub date-early : g / 12 + c .common ≤ c .elapsed → noDate 7 ≡ dateIn c r
+  pub date-early : g / 12 + c .common ≤ c .elapsed → noDate DAY ≡ dateIn c r
   unfolding dateIn
-  date-early h = simp (too-early c room r (omega (arith, year-is)))
+  date-early h = simp (too-early c fit r (omega (arith, year-is)))
 
-  pub date-late : c .elapsed + 3000 < g / 12 + c .common → noDate 7 ≡ dateIn c r
+  pub date-late : c .elapsed + 3000 < g / 12 + c .common → noDate DAY ≡ dateIn c r
   unfolding dateIn
-  date-late h = simp (too-late c room r (omega (arith, year-is)))
+  date-late h = simp (too-late c fit r (omega (arith, year-is)))
 
   pub date-in-time : c .elapsed < g / 12 + c .common → g / 12 + c .common ≤ c .elapsed + 3000
       → dateAt c (r + c .anchor) ≡ dateIn c r
   unfolding dateIn
-  date-in-time a b = simp (in-time c room r (omega (arith, year-is)) (omega (arith, year-is)))
+  date-in-time a b = simp (in-time c fit r (omega (arith, year-is)) (omega (arith, year-is)))
 
 -- A day is dated by the system that the request names.
 pub date-answered : (system r : ℕ) → outside 1 2 system ≡ false → dateIn (constantsOf system) r ≡ dateOf system r

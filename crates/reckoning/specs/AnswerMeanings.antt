@@ -4,7 +4,7 @@ use Prim.Native.Nat.{ℕ, _+_, _*_, _≤_, _<_}
 use mathlib.Core.Path.{_≡_}
 use lib.ListN.{length, getD}
 use Rattle.calendar.specs.declared.data.Constants.{Constants}
-use Rattle.calendar.specs.Name.{nameOfCountDay}
+use Rattle.calendar.specs.SixtyDayName.{nameOfCountDay}
 use Rattle.calendar.specs.Qi.{solsticeDay, solsticeRemainder, qi}
 use Rattle.calendar.specs.Year.{Span, yearHead, yearLength}
 use Rattle.reckoning.specs.declared.data.Solstice.{Solstice}

@@ -13,32 +13,32 @@ use Rattle.calendar.specs.ClosedForms.{firstMonth}
 use Rattle.calendar.proofs.EachSystem.{consistent}
 use Rattle.calendar.proofs.Rising.{by-order}
 use Rattle.calendar.proofs.Reckoned.{reckoned}
-use Rattle.calendar.proofs.Months.{count-least}
+use Rattle.calendar.proofs.EveryCalendar.{count-least}
 use Rattle.calendar.proofs.Spans.{span, span-first, span-next}
 use Rattle.calendar.proofs.Numbers.{bears-its-number, marked}
 use Rattle.calendar.proofs.Laws.{month-days, year-months, months-cover, twelve-none-lacks, thirteen-one-leap}
 use Rattle.reckoning.specs.declared.data.Year.{Year}
 use Rattle.reckoning.specs.Scope.{InScope}
 use Rattle.reckoning.specs.Asked.{askedOf}
-use Rattle.reckoning.specs.Room.{Reach}
-use Rattle.reckoning.specs.Refusal.{yearRefusal}
+use Rattle.reckoning.specs.WordBounds.{YearInRegister}
+use Rattle.reckoning.specs.ComputedRefusals.{yearRefusal}
 use Rattle.reckoning.specs.Requests.{asRegisterDay, headAt, numberAt, leapAt, noHeads, noMarks, monthsFrom, yearIn, noYear, yearOf}
 use Rattle.reckoning.specs.YearValue.{headIn, ListsMonths, Tiled}
-use Rattle.reckoning.proofs.Fill.{filled-below, filled-past, filled-length, replicate-reads}
-use Rattle.reckoning.proofs.Refusals.{in-scope}
-use Rattle.reckoning.proofs.Scope.{reach}
-use Rattle.reckoning.proofs.Answers.{answered}
-use Rattle.reckoning.proofs.InReach.{listed}
+use Rattle.reckoning.proofs.FilledLaws.{filled-below, filled-past, filled-length, replicate-reads}
+use Rattle.reckoning.proofs.RefusalCases.{in-scope}
+use Rattle.reckoning.proofs.ScopeInRegister.{year-in-register}
+use Rattle.reckoning.proofs.AnswerUnless.{answered}
+use Rattle.reckoning.proofs.RegisterLaws.{months-in-register}
 
 -- Year n within the register.
-module _ (c : Constants) (n : ℕ) (r : Reach c n) where
+module _ (c : Constants) (n : ℕ) (r : YearInRegister c n) where
   head-at : (i : ℕ) → i ≤ firstMonth c (n + 1) - firstMonth c n
       → headIn (yearIn c n) i + c .anchor ≡ monthHead c (firstMonth c n + i)
   unfolding monthsFrom
   head-at i h =
       let f = firstMonth c n in
       let m = firstMonth c (n + 1) - f in
-      let l = listed c n r in
+      let l = months-in-register c n r in
       let small = l .count-most in
       let e = filled-below (headAt c f) noHeads (asRegisterDay 0) (m + 1) i (omega arith) (omega arith) in
       omega (arith, ap (λ d. d .0) e, l .head i h)
@@ -46,10 +46,10 @@ module _ (c : Constants) (n : ℕ) (r : Reach c n) where
   pub holds-year : ListsMonths c n (yearIn c n)
   unfolding monthsFrom
   holds-year =
-      let ok = r .room .consistent in
+      let ok = r .constants-fit .consistent in
       let f = firstMonth c n in
       let m = firstMonth c (n + 1) - f in
-      let l = listed c n r in
+      let l = months-in-register c n r in
       let small = l .count-most in
       let e : f + m ≡ firstMonth c (n + 1) = omega (arith, count-least (reckoned c ok) n) in
       record {
@@ -177,7 +177,7 @@ module _ (system year : ℕ) (s : InScope system year) where
   answer = answered yearIn noYear (askedOf (yearRefusal system year) system year) _ refl (in-scope system year s)
 
   pub year-holds : ListsMonths c (yearsElapsed c year) (yearOf system year)
-  year-holds = subst (ListsMonths c (yearsElapsed c year)) answer (holds-year c (yearsElapsed c year) (reach system year (s .year-inside)))
+  year-holds = subst (ListsMonths c (yearsElapsed c year)) answer (holds-year c (yearsElapsed c year) (year-in-register system year (s .year-inside)))
 
   pub year-tiled : Tiled (yearOf system year)
   year-tiled = tiled c (consistent system) (yearsElapsed c year) (yearOf system year) year-holds

@@ -3,6 +3,7 @@ use Prim.Native.Nat.{ℕ, _<_}
 use mathlib.Core.Path.{_≡_}
 use mathlib.Core.Logic.{_⊎_}
 use mathlib.Core.List.{List, [], _∷_, _++_}
+use Rattle.reckoning.specs.RefusalNumbers.{SYSTEM, YEAR, QI}
 use Rattle.reckoning.specs.Scope.{SystemInScope, YearInScope}
 
 infixl 80 _when_
@@ -16,10 +17,10 @@ FirstOf [] number = number ≡ 0
 FirstOf ((refusal when applies) ∷ rows) number =
     ((number ≡ refusal) × applies) ⊎ ((applies → ⊥) × FirstOf rows number)
 
--- A request by system and year: 4, then 5,
+-- A request by system and year: SYSTEM, then YEAR,
 abbrev pub yearRows : ℕ → ℕ → List Row
-yearRows system year = 4 when (SystemInScope system → ⊥) ∷ 5 when (YearInScope year → ⊥) ∷ []
+yearRows system year = SYSTEM when (SystemInScope system → ⊥) ∷ YEAR when (YearInScope year → ⊥) ∷ []
 
--- and then 9 where a qi is asked.
+-- and then QI where a qi is asked.
 abbrev pub qiRows : ℕ → ℕ → ℕ → List Row
-qiRows system year i = yearRows system year ++ (9 when (23 < i) ∷ [])
+qiRows system year i = yearRows system year ++ (QI when (23 < i) ∷ [])

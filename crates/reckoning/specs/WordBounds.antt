@@ -1,4 +1,4 @@
--- Bounds under which the code's numbers fit: kept by every year in scope (see `reach`).
+-- Bounds of machine words, under which the code's numbers fit; every year in scope keeps them (see `year-in-register`).
 use Prim.Native.Nat.{ℕ, _+_, _*_, _^_, _≤_, _<_}
 use Rattle.calendar.specs.declared.data.Constants.{Constants}
 use Rattle.calendar.specs.Qi.{solstice, solsticeDay, qi, dayOf}
@@ -7,7 +7,7 @@ use Rattle.calendar.specs.Consistent.{Consistent}
 use Rattle.calendar.specs.ClosedForms.{firstMonth}
 
 -- Products of the constants with counts of months, days, years and middle qi.
-pub record Room (c : Constants) : Type 0 where
+pub record ConstantsFit (c : Constants) : Type 0 where
   pub consistent : Consistent c
   pub month-some : 0 < c .month
   pub year-some : 0 < c .year
@@ -22,24 +22,24 @@ pub record Room (c : Constants) : Type 0 where
   pub anchor-small : c .anchor < 2 ^ 35
 
 -- Count day d has a register day of 32 bits, with room for a year's days after it.
-pub record Registered (c : Constants) (d : ℕ) : Type 0 where
+pub record InRegister (c : Constants) (d : ℕ) : Type 0 where
   pub from : c .anchor ≤ d
   pub before : d < c .anchor + 2 ^ 31
 
 -- Year n lies within the register.
-pub record Reach (c : Constants) (n : ℕ) : Type 0 where
-  pub room : Room c
+pub record YearInRegister (c : Constants) (n : ℕ) : Type 0 where
+  pub constants-fit : ConstantsFit c
   pub elapsed : n + 1 < 2 ^ 28
   pub months : firstMonth c (n + 1) < 2 ^ 31
   pub solstice-small : solstice c n < 2 ^ 62
   pub qi-small : (i : ℕ) → i ≤ 23 → qi c n i < 2 ^ 62
-  pub solstice-day : Registered c (solsticeDay c n)
-  pub qi-day : (i : ℕ) → i ≤ 23 → Registered c (dayOf c (qi c n i))
-  pub head : (k : ℕ) → firstMonth c n ≤ k → k ≤ firstMonth c (n + 1) → Registered c (monthHead c k)
+  pub solstice-day : InRegister c (solsticeDay c n)
+  pub qi-day : (i : ℕ) → i ≤ 23 → InRegister c (dayOf c (qi c n i))
+  pub head : (k : ℕ) → firstMonth c n ≤ k → k ≤ firstMonth c (n + 1) → InRegister c (monthHead c k)
 
 -- `count` months from month `first` on, and the head after them, lie within the register.
-pub record Listed (c : Constants) (first count : ℕ) : Type 0 where
-  pub room : Room c
+pub record MonthsInRegister (c : Constants) (first count : ℕ) : Type 0 where
+  pub constants-fit : ConstantsFit c
   pub first-small : first < 2 ^ 31
   pub count-most : count ≤ 13
-  pub head : (i : ℕ) → i ≤ count → Registered c (monthHead c (first + i))
+  pub head : (i : ℕ) → i ≤ count → InRegister c (monthHead c (first + i))

@@ -4,36 +4,37 @@ use mathlib.Core.Path.{_≡_}
 use mathlib.Core.List.{List, [], _∷_, _++_}
 use lib.ListN.{length}
 use Rattle.calendar.specs.Inside.{Inside}
-use Rattle.calendar.specs.Name.{nameOf}
+use Rattle.calendar.specs.SixtyDayName.{nameOf}
 use Rattle.calendar.specs.Month.{InMonth, monthLength}
 use Rattle.calendar.specs.Year.{Span, yearLength}
-use Rattle.reckoning.specs.Rows.{Row, _when_, FirstOf}
+use Rattle.reckoning.specs.RefusalNumbers.{SHORT, KIND, LENGTH, SYSTEM, YEAR, MONTH, DAY, OUTPUT}
+use Rattle.reckoning.specs.WordedRefusals.{Row, _when_, FirstOf}
 use Rattle.reckoning.specs.Scope.{SystemInScope, YearInScope, NoSuchMonth, DayInScope}
 use Rattle.citation.specs.Record.{lengthField, kindOf, systemOf, kindLength, yearField, monthField, leapField}
 use Rattle.citation.specs.Record.{dayField, nameField, ordinalField, registerDayField}
-use Rattle.citation.specs.Named.{constantsIn, elapsedIn, CitedMonth}
+use Rattle.citation.specs.DayCited.{constantsIn, elapsedIn, CitedMonth}
 
--- Row 1: too few bytes for a length field and a kind.
+-- SHORT: too few bytes for a length field and a kind.
 abbrev pub TooShort : List ℕ → Type 0
 TooShort s = length s < 4
 
--- Row 2: a kind that there is not.
+-- KIND: a kind that there is not.
 abbrev pub WrongKind : List ℕ → Type 0
 WrongKind s = Inside 1 4 (kindOf s) → ⊥
 
--- Row 3: the length field, or the number of bytes handed in, is not the kind's.
+-- LENGTH: the length field, or the number of bytes handed in, is not the kind's.
 abbrev pub WrongLength : List ℕ → Type 0
 WrongLength s = (lengthField s ≡ kindLength (kindOf s)) × (length s ≡ lengthField s) → ⊥
 
--- Row 4: a system that there is not.
+-- SYSTEM: a system that there is not.
 abbrev pub WrongSystem : List ℕ → Type 0
 WrongSystem s = SystemInScope (systemOf s) → ⊥
 
--- Row 5: a year out of scope, in the kinds that have one.
+-- YEAR: a year out of scope, in the kinds that have one.
 abbrev pub WrongYear : List ℕ → Type 0
 WrongYear s = (kindOf s ≤ 3) × (YearInScope (yearField s) → ⊥)
 
--- Row 6: a month that there is not, in the kinds that have one.
+-- MONTH: a month that there is not, in the kinds that have one.
 abbrev pub WrongMonth : List ℕ → Type 0
 WrongMonth s = (kindOf s ≤ 2) × NoSuchMonth (constantsIn s) (elapsedIn s) (monthField s) (leapField s)
 
@@ -50,25 +51,25 @@ pub data Placed (s : List ℕ) : Type 0 where
   ordinal-in-year : kindOf s ≡ 3 → (y : Span (constantsIn s) (elapsedIn s)) → Inside 1 (yearLength y) (ordinalField s) → Placed s
   day-in-scope : kindOf s ≡ 4 → DayInScope (systemOf s) (registerDayField s) → Placed s
 
--- Row 7: what is cited does not exist.
+-- DAY: what is cited does not exist.
 abbrev pub NotPlaced : List ℕ → Type 0
 NotPlaced s = Placed s → ⊥
 
--- Row 8: an output too short for a stored record.
+-- OUTPUT: an output too short for a stored record.
 abbrev pub NoRoom : ℕ → Type 0
 NoRoom room = room < 10
 
 -- The rows on what a record says,
 abbrev pub contentRows : List ℕ → List Row
-contentRows s = 4 when WrongSystem s ∷ 5 when WrongYear s ∷ 6 when WrongMonth s ∷ 7 when NotPlaced s ∷ []
+contentRows s = SYSTEM when WrongSystem s ∷ YEAR when WrongYear s ∷ MONTH when WrongMonth s ∷ DAY when NotPlaced s ∷ []
 
 -- after those on whether it is a record at all: these judge a citation by its bytes,
 abbrev pub citationRows : List ℕ → List Row
-citationRows s = 1 when TooShort s ∷ 2 when WrongKind s ∷ 3 when WrongLength s ∷ contentRows s
+citationRows s = SHORT when TooShort s ∷ KIND when WrongKind s ∷ LENGTH when WrongLength s ∷ contentRows s
 
 -- and a storing by its output too.
 abbrev pub storingRows : List ℕ → ℕ → List Row
-storingRows s room = citationRows s ++ (8 when NoRoom room ∷ [])
+storingRows s room = citationRows s ++ (OUTPUT when NoRoom room ∷ [])
 
 -- Accepted: none of those on its bytes applies.
 abbrev pub Accepted : List ℕ → Type 0

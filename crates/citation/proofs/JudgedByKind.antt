@@ -6,9 +6,9 @@ use mathlib.Core.List.{List}
 use native.Mathlib.Omega.{arith}
 use Rattle.calendar.specs.declared.data.Constants.{Constants}
 use Rattle.calendar.specs.Inside.{Inside}
-use Rattle.calendar.specs.Name.{nameOf}
+use Rattle.calendar.specs.SixtyDayName.{nameOf}
 use Rattle.calendar.specs.Month.{monthHead, InMonth, monthLength, dayOfMonth}
-use Rattle.calendar.specs.Year.{Span, yearLength, dayOfOrdinal, MonthNamed}
+use Rattle.calendar.specs.Year.{Span, yearLength, dayOfOrdinal, MonthNumbered}
 use Rattle.calendar.proofs.EachSystem.{consistent}
 use Rattle.calendar.proofs.Rising.{by-order}
 use Rattle.calendar.proofs.Reckoned.{reckoned}
@@ -19,19 +19,20 @@ use Rattle.reckoning.specs.declared.data.Date.{Date}
 use Rattle.reckoning.specs.Scope.{InScope, DayInScope}
 use Rattle.reckoning.specs.Requests.{daysOf, monthOf, dateOf}
 use Rattle.reckoning.specs.Outcomes.{MonthFound, MonthOutcome, DaysOutcome, DateFound, DateOutcome}
-use Rattle.reckoning.proofs.Refusals.{by-inside}
-use Rattle.reckoning.proofs.Outcomes.{days-outcome, month-outcome, date-outcome, year-day-in-scope}
+use Rattle.reckoning.proofs.RefusalCases.{by-inside}
+use Rattle.reckoning.proofs.RequestsEnd.{days-outcome, month-outcome, date-outcome, year-day-in-scope}
+use Rattle.reckoning.specs.RefusalNumbers.{SYSTEM, YEAR, MONTH, DAY}
 use Rattle.citation.specs.declared.judge.Judgement.{Judgement}
 use Rattle.citation.specs.Record.{kindOf, systemOf, yearField, monthField, leapField, dayField, nameField}
 use Rattle.citation.specs.Record.{ordinalField, registerDayField, recordOf}
-use Rattle.citation.specs.Named.{constantsIn, elapsedIn, CitedMonth, Names, OnDate}
-use Rattle.reckoning.specs.Rows.{Row, FirstOf}
-use Rattle.citation.specs.Refused.{contentRows, WrongSystem, WrongYear, WrongMonth, Placed, NotPlaced}
+use Rattle.citation.specs.DayCited.{constantsIn, elapsedIn, CitedMonth, NamesDay, OnDate}
+use Rattle.reckoning.specs.WordedRefusals.{Row, FirstOf}
+use Rattle.citation.specs.CitationRefusals.{contentRows, WrongSystem, WrongYear, WrongMonth, Placed, NotPlaced}
 use Rattle.citation.specs.Store.{refuse, accept, daysToName, judgeRegisterDay, judgeOrdinal, judgeDay, judgeName}
 use Rattle.citation.proofs.OneDay.{month-once}
-use Rattle.citation.proofs.Judgements.{date-refused, date-accepted, year-refused, ordinal-wrong, ordinal-right}
-use Rattle.citation.proofs.Judgements.{month-refused, day-wrong, day-right}
-use Rattle.citation.proofs.Judgements.{name-month-refused, no-name, name-past, name-right}
+use Rattle.citation.proofs.JudgementCases.{date-refused, date-accepted, year-refused, ordinal-wrong, ordinal-right}
+use Rattle.citation.proofs.JudgementCases.{month-refused, day-wrong, day-right}
+use Rattle.citation.proofs.JudgementCases.{name-month-refused, no-name, name-past, name-right}
 
 -- What the judgement of an accepted citation holds: the day that it names, by year, month and day of the month, and
 -- the record of that date.
@@ -42,7 +43,7 @@ pub record Kept (s : List ℕ) (j : Judgement) : Type 0 where
   pub day : ℕ
   pub dated : OnDate (systemOf s) (j .day .0) year month leap day
   pub stored : j .stored ≡ recordOf (systemOf s) year month leap day
-  pub names : Names s (j .day .0)
+  pub names : NamesDay s (j .day .0)
 
 -- A citation judged by rows of refusals: the first that applies, or none.
 pub data Judged (rows : List Row) (s : List ℕ) (j : Judgement) : Type 0 where
@@ -59,19 +60,19 @@ module _ (s : List ℕ) where
   abbrev c : Constants
   c = constantsIn s
 
-  -- The month of kinds 1 and 2: refused 4, 5 or 6, or found.
+  -- The month of kinds 1 and 2: refused SYSTEM, YEAR or MONTH, or found.
   month-judged : (j : Judgement) (m : Month) → kindOf s ≤ 2
       → MonthOutcome (systemOf s) (yearField s) (monthField s) (leapField s) m
       → ((m .refusal ≡ 0 → ⊥) → refuse (m .refusal) ≡ j)
       → (MonthFound (systemOf s) (yearField s) (monthField s) (leapField s) m → (WrongMonth s → ⊥) → Judged (contentRows s) s j)
       → Judged (contentRows s) s j
   month-judged j m kind (MonthOutcome.system-refused w e) r f =
-      Judged.refused 4 (omega arith) (refused-as e (λ x. x .refusal) (omega arith) r) (inl (refl, w))
+      Judged.refused SYSTEM (omega arith) (refused-as e (λ x. x .refusal) (omega arith) r) (inl (refl, w))
   month-judged j m kind (MonthOutcome.year-refused i w e) r f =
-      Judged.refused 5 (omega arith) (refused-as e (λ x. x .refusal) (omega arith) r)
+      Judged.refused YEAR (omega arith) (refused-as e (λ x. x .refusal) (omega arith) r)
       (inr (λ v. v i, inl (refl, (omega arith, w))))
   month-judged j m kind (MonthOutcome.month-refused i w e) r f =
-      Judged.refused 6 (omega arith) (refused-as e (λ x. x .refusal) (omega arith) r)
+      Judged.refused MONTH (omega arith) (refused-as e (λ x. x .refusal) (omega arith) r)
       (inr (λ v. v (i .system-inside), inr (λ v. v .1 (i .year-inside), inl (refl, (kind, w)))))
   month-judged j m kind (MonthOutcome.found f) r g =
       g f
@@ -81,13 +82,13 @@ module _ (s : List ℕ) where
       (λ v.
       ⊎-elim
       (λ u. u (f .mark-inside))
-      (λ u. u .1 (record { month = f .k; is-leap = subst (λ x. MonthNamed c (elapsedIn s) (monthField s) x (f .k)) (u .0) (f .named) }))
+      (λ u. u .1 (record { month = f .k; is-leap = subst (λ x. MonthNumbered c (elapsedIn s) (monthField s) x (f .k)) (u .0) (f .numbered) }))
       v)
       (w .1))
 
   -- What is left to judge where system, year and month are right: the place.
   place-rows : {number : ℕ} → InScope (systemOf s) (yearField s) → (WrongMonth s → ⊥)
-      → ((number ≡ 7) × NotPlaced s) ⊎ ((NotPlaced s → ⊥) × (number ≡ 0))
+      → ((number ≡ DAY) × NotPlaced s) ⊎ ((NotPlaced s → ⊥) × (number ≡ 0))
       → FirstOf (contentRows s) number
   place-rows i w p =
       let system-right : WrongSystem s → ⊥ = λ v. v (i .system-inside) in
@@ -112,12 +113,12 @@ module _ (s : List ℕ) where
       (λ f w.
       let i = f .in-scope in
       let k = f .k in
-      let n = f .named in
+      let n = f .numbered in
       let z = f .not-refused in
       let l = f .length-is in
       by-inside 1 (m .length) (dayField s)
       (λ e out.
-      Judged.refused 7 (omega arith) (sym (day-wrong _ _ _ _ _ m refl z e))
+      Judged.refused DAY (omega arith) (sym (day-wrong _ _ _ _ _ m refl z e))
       (place-rows i w (inl (refl, day-not-placed kind k n (λ p. out (subst (λ x. Inside 1 x (dayField s)) (sym l) p))))))
       (λ e into.
       let inside = subst (λ x. Inside 1 x (dayField s)) l into in
@@ -130,9 +131,9 @@ module _ (s : List ℕ) where
         month = monthField s;
         leap = leapField s;
         day = dayField s;
-        dated = record { k = k; in-scope = i; named = n; placed = inside; day-is = day-is };
+        dated = record { k = k; in-scope = i; numbered = n; placed = inside; day-is = day-is };
         stored = refl;
-        names = Names.by-day kind k n day-is;
+        names = NamesDay.by-day kind k n day-is;
       }))))
 
   -- Kind 2.
@@ -157,13 +158,13 @@ module _ (s : List ℕ) where
       (λ f w.
       let i = f .in-scope in
       let k = f .k in
-      let n = f .named in
+      let n = f .numbered in
       let z = f .not-refused in
       let short = (reckoned c (consistent (systemOf s))) .month-most k in
       let least = (reckoned c (consistent (systemOf s))) .month-least k in
       by-order 59 (nameField s)
       (λ far.
-      Judged.refused 7 (omega arith) (sym (no-name _ _ _ _ _ m refl z far))
+      Judged.refused DAY (omega arith) (sym (no-name _ _ _ _ _ m refl z far))
       (place-rows i w (inl (refl, name-not-placed kind k n (λ r p e. omega arith)))))
       (λ near.
       by-order days (m .length)
@@ -182,19 +183,19 @@ module _ (s : List ℕ) where
         dated = record {
           k = k;
           in-scope = i;
-          named = n;
+          numbered = n;
           placed = record { at-least = omega arith; at-most = omega arith };
           day-is = day-is;
         };
         stored = refl;
-        names = Names.by-name kind k n in-month is-named;
+        names = NamesDay.by-name kind k n in-month is-named;
       })))
       (λ b.
-      Judged.refused 7 (omega arith) (sym (name-past _ _ _ _ _ m refl z near b))
+      Judged.refused DAY (omega arith) (sym (name-past _ _ _ _ _ m refl z near b))
       (place-rows i w (inl (refl, name-not-placed kind k n (λ r p e. omega (arith, p, e))))))))
 
   -- A day that is named and has a date is kept.
-  kept-by-date : (r : ℕ) (d : Date) → Names s r → DateFound (systemOf s) r d
+  kept-by-date : (r : ℕ) (d : Date) → NamesDay s r → DateFound (systemOf s) r d
       → Kept s (accept r (systemOf s) (d .year) (d .month) (d .leap) (d .day))
   kept-by-date r d names f =
       record {
@@ -205,7 +206,7 @@ module _ (s : List ℕ) where
         dated = record {
           k = f .k;
           in-scope = f .in-scope;
-          named = f .named;
+          numbered = f .numbered;
           placed = record { at-least = omega arith; at-most = omega arith };
           day-is = omega arith;
         };
@@ -224,10 +225,10 @@ module _ (s : List ℕ) where
       → DateOutcome (systemOf s) (registerDayField s) d
       → Judged (contentRows s) s (judgeRegisterDay (systemOf s) (registerDayField s))
   register-day-judged-by kind d is (DateOutcome.system-refused w e) =
-      Judged.refused 4 (omega arith) (refused-as e (λ x. x .refusal) (omega arith) (date-refused _ _ d is))
+      Judged.refused SYSTEM (omega arith) (refused-as e (λ x. x .refusal) (omega arith) (date-refused _ _ d is))
       (inl (refl, w))
   register-day-judged-by kind d is (DateOutcome.day-refused i w e) =
-      Judged.refused 7 (omega arith) (refused-as e (λ x. x .refusal) (omega arith) (date-refused _ _ d is))
+      Judged.refused DAY (omega arith) (refused-as e (λ x. x .refusal) (omega arith) (date-refused _ _ d is))
       (inr (λ v. v i, inr (λ v. omega (arith, v .0), inr (λ v. omega (arith, v .0), inl (refl, day-out-of-scope kind w)))))
   register-day-judged-by kind d is (DateOutcome.found f) =
       let system-right : WrongSystem s → ⊥ = λ v. v (f .in-scope .system-inside) in
@@ -236,7 +237,7 @@ module _ (s : List ℕ) where
       let place-right : NotPlaced s → ⊥ = λ v. v (Placed.day-in-scope kind (f .day-in-scope)) in
       subst (Judged (contentRows s) s) (date-accepted _ _ d is (f .not-refused))
       (Judged.accepted refl (inr (system-right, inr (year-right, inr (month-right, inr (place-right, refl)))))
-      (kept-by-date (registerDayField s) d (Names.by-register-day kind refl) f))
+      (kept-by-date (registerDayField s) d (NamesDay.by-register-day kind refl) f))
 
   pub register-day-judged : kindOf s ≡ 4 → Judged (contentRows s) s (judgeRegisterDay (systemOf s) (registerDayField s))
   register-day-judged kind = register-day-judged-by kind _ refl (date-outcome (systemOf s) (registerDayField s))
@@ -252,7 +253,7 @@ module _ (s : List ℕ) where
       out (record { at-least = i .at-least; at-most = omega (arith, i .at-most) })
   ordinal-not-placed e y out (Placed.day-in-scope f d) = omega arith
 
-  on-ordinal-judged : (r : ℕ) → kindOf s ≡ 3 → Names s r → DayInScope (systemOf s) r
+  on-ordinal-judged : (r : ℕ) → kindOf s ≡ 3 → NamesDay s r → DayInScope (systemOf s) r
       → (d : Date)
       → d ≡ dateOf (systemOf s) r
       → DateOutcome (systemOf s) r d
@@ -267,10 +268,10 @@ module _ (s : List ℕ) where
   ordinal-judged-by : kindOf s ≡ 3 → (y : Days) → y ≡ daysOf (systemOf s) (yearField s) → DaysOutcome (systemOf s) (yearField s) y
       → Judged (contentRows s) s (judgeOrdinal (systemOf s) (yearField s) (ordinalField s))
   ordinal-judged-by kind y is (DaysOutcome.system-refused w e) =
-      Judged.refused 4 (omega arith) (refused-as e (λ x. x .refusal) (omega arith) (year-refused _ _ _ y is))
+      Judged.refused SYSTEM (omega arith) (refused-as e (λ x. x .refusal) (omega arith) (year-refused _ _ _ y is))
       (inl (refl, w))
   ordinal-judged-by kind y is (DaysOutcome.year-refused i w e) =
-      Judged.refused 5 (omega arith) (refused-as e (λ x. x .refusal) (omega arith) (year-refused _ _ _ y is))
+      Judged.refused YEAR (omega arith) (refused-as e (λ x. x .refusal) (omega arith) (year-refused _ _ _ y is))
       (inr (λ v. v i, inl (refl, (omega arith, w))))
   ordinal-judged-by kind y is (DaysOutcome.found f) =
       let i = f .in-scope in
@@ -280,14 +281,14 @@ module _ (s : List ℕ) where
       by-inside 1 (y .length) (ordinalField s)
       (λ e out.
       let out-there = subst (λ x. Inside 1 x (ordinalField s) → ⊥) l out in
-      Judged.refused 7 (omega arith) (sym (ordinal-wrong _ _ _ y is z e))
+      Judged.refused DAY (omega arith) (sym (ordinal-wrong _ _ _ y is z e))
       (place-rows i (λ v. omega (arith, v .0)) (inl (refl, ordinal-not-placed kind span-of out-there))))
       (λ e into.
       let inside = subst (λ x. Inside 1 x (ordinalField s)) l into in
       let r = y .head .0 + ordinalField s - 1 in
       let day-is : r + c .anchor ≡ dayOfOrdinal span-of (ordinalField s) = omega (arith, into) in
       subst (Judged (contentRows s) s) (ordinal-right _ _ _ y is z e)
-      (on-ordinal-judged r kind (Names.by-ordinal kind span-of day-is)
+      (on-ordinal-judged r kind (NamesDay.by-ordinal kind span-of day-is)
       (year-day-in-scope (systemOf s) (yearField s) r i span-of (omega (arith, into)) (omega (arith, inside)))
       _ refl (date-outcome (systemOf s) r)
       (place-rows i (λ v. omega (arith, v .0)) (inr (λ v. v (Placed.ordinal-in-year kind span-of inside), refl)))))

@@ -9,11 +9,11 @@ use Rattle.calendar.proofs.Reckoned.{reckoned}
 use Rattle.calendar.proofs.Laws.{number-inside}
 use Rattle.citation.specs.Record.{systemOf, monthField, dayField}
 use Rattle.citation.specs.SmallFields.{SmallFields}
-use Rattle.citation.specs.Refused.{citationRows}
+use Rattle.citation.specs.CitationRefusals.{citationRows}
 use Rattle.citation.specs.Store.{judgeOf}
 use Rattle.citation.specs.declared.judge.Judgement.{Judgement}
-use Rattle.citation.proofs.Judged.{Judged}
-use Rattle.citation.proofs.Refusals.{judged}
+use Rattle.citation.proofs.JudgedByKind.{Judged}
+use Rattle.citation.proofs.FirstRefusal.{judged}
 
 pub small-fields : (s : List ℕ) (j : Judgement) → j ≡ judgeOf s → j .refusal ≡ 0 → SmallFields (j .stored)
 small-fields s j e z = go (judged s)
@@ -24,7 +24,7 @@ small-fields s j e z = go (judged s)
         let c = constantsOf (systemOf s) in
         let ok = consistent (systemOf s) in
         let d = κ .dated in
-        let month = number-inside c ok (yearsElapsed c (κ .year)) (κ .month) (κ .leap) (d .k) (d .named) in
+        let month = number-inside c ok (yearsElapsed c (κ .year)) (κ .month) (κ .leap) (d .k) (d .numbered) in
         let t = ap (λ x. x .stored) e ∙ κ .stored in
         record {
           month-small = omega (arith, month, ap monthField t);

@@ -9,18 +9,19 @@ use Rattle.calendar.specs.Calendar.{Calendar}
 use Rattle.calendar.specs.ClosedForms.{monthOfQi, firstMonth, qiOfNumber, leapFollows}
 use Rattle.calendar.proofs.Reckoned.{reckoned}
 use Rattle.calendar.proofs.Rising.{monotone}
-use Rattle.calendar.proofs.Months.{within-of-qi}
-use Rattle.reckoning.specs.Room.{Room, Registered, Reach}
-use Rattle.reckoning.specs.Refusal.{outside}
-use Rattle.reckoning.proofs.Refusals.{inside-of}
+use Rattle.calendar.proofs.EveryCalendar.{within-of-qi}
+use Rattle.reckoning.specs.WordBounds.{ConstantsFit, InRegister, YearInRegister}
+use Rattle.reckoning.specs.ComputedRefusals.{outside}
+use Rattle.reckoning.proofs.RefusalCases.{inside-of}
 use Rattle.reckoning.specs.Requests.{monthAt, noMonth, monthIn}
+use Rattle.reckoning.specs.RefusalNumbers.{MONTH}
 
 module _ (c : Constants) (n number leap : ℕ) where
-  pub number-wrong : outside 1 12 number ≡ true → noMonth 6 ≡ monthIn c n number leap
+  pub number-wrong : outside 1 12 number ≡ true → noMonth MONTH ≡ monthIn c n number leap
   unfolding monthIn
   number-wrong e = simp e
 
-  pub mark-wrong : outside 1 12 number ≡ false → outside 0 1 leap ≡ true → noMonth 6 ≡ monthIn c n number leap
+  pub mark-wrong : outside 1 12 number ≡ false → outside 0 1 leap ≡ true → noMonth MONTH ≡ monthIn c n number leap
   unfolding monthIn
   mark-wrong e f = simp (e, f)
 
@@ -41,27 +42,27 @@ module _ (c : Constants) (n number leap : ℕ) where
 
   pub leap-lacks : outside 1 12 number ≡ false → outside 0 1 leap ≡ false → (leap ≡ 0 → ⊥)
       → leapFollows c n number ≡ false
-      → noMonth 6 ≡ monthIn c n number leap
+      → noMonth MONTH ≡ monthIn c n number leap
   unfolding monthIn
   leap-lacks e f z l =
       let one : 1 ≡ leap = omega (arith, inside-of 0 1 leap f) in
-      subst (λ x. noMonth 6 ≡ monthIn c n number x) one (simp (e, l))
+      subst (λ x. noMonth MONTH ≡ monthIn c n number x) one (simp (e, l))
 
 -- Months of a year within the register.
-module _ (c : Constants) (n : ℕ) (r : Reach c n) where
+module _ (c : Constants) (n : ℕ) (r : YearInRegister c n) where
   abbrev K : Calendar
-  K = reckoned c (r .room .consistent)
+  K = reckoned c (r .constants-fit .consistent)
 
   pub ordinary-registered : (number k : ℕ) → k ≡ monthOfQi c (qiOfNumber n number)
-      → Room c × (k + 1 < 2 ^ 32) × Registered c (monthHead c k)
+      → ConstantsFit c × (k + 1 < 2 ^ 32) × InRegister c (monthHead c k)
   ordinary-registered number k e =
       let w = within-of-qi K n ((number + 1) % 12) (omega arith) in
-      (r .room, omega (arith, r .months), r .head k (omega arith) (omega arith))
+      (r .constants-fit, omega (arith, r .months), r .head k (omega arith) (omega arith))
 
   pub leap-registered : (number k next : ℕ) → k ≡ monthOfQi c (qiOfNumber n number) → next ≡ monthOfQi c (qiOfNumber n number + 1)
       → k + 1 < next
-      → Room c × (k + 1 + 1 < 2 ^ 32) × Registered c (monthHead c (k + 1))
+      → ConstantsFit c × (k + 1 + 1 < 2 ^ 32) × InRegister c (monthHead c (k + 1))
   leap-registered number k next e f l =
       let w = within-of-qi K n ((number + 1) % 12) (omega arith) in
       let b : monthOfQi c (qiOfNumber n number + 1) ≤ firstMonth c (n + 1) = monotone (K .monthOfQi) (K .qi-rises) (omega arith) in
-      (r .room, omega (arith, r .months), r .head (k + 1) (omega arith) (omega arith))
+      (r .constants-fit, omega (arith, r .months), r .head (k + 1) (omega arith) (omega arith))

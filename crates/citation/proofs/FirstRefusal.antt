@@ -1,0 +1,80 @@
+-- Every citation is judged by the table: the first refusal that applies, and none otherwise.
+use Prim.Native.Nat.{ℕ}
+use mathlib.Core.Path.{_≡_, refl, subst, ap, sym, _∙_}
+use mathlib.Core.Logic.{inl, inr}
+use mathlib.Core.List.{List, [], _∷_}
+use native.Mathlib.Omega.{arith}
+use lib.ListN.{length}
+use Rattle.calendar.specs.Inside.{Inside}
+use Rattle.calendar.proofs.Rising.{by-order}
+use Rattle.reckoning.proofs.RefusalCases.{by-inside}
+use Rattle.reckoning.specs.RefusalNumbers.{SHORT, KIND, LENGTH, OUTPUT}
+use Rattle.citation.specs.declared.judge.Judgement.{Judgement}
+use Rattle.citation.specs.Record.{kindOf}
+use Rattle.reckoning.specs.WordedRefusals.{FirstOf, _when_}
+use Rattle.citation.specs.CitationRefusals.{TooShort, WrongKind, WrongLength, NoRoom, contentRows, citationRows, storingRows}
+use Rattle.citation.specs.Store.{judgeKind, judgeOf, refusalOf}
+use Rattle.citation.proofs.RowLaws.{first-unique, first-before, first-after}
+use Rattle.citation.proofs.JudgementCases.{kind-one, kind-two, kind-three, kind-four}
+use Rattle.citation.proofs.JudgementCases.{by-length, too-short, wrong-kind, wrong-length, right-record}
+use Rattle.citation.proofs.JudgedByKind.{Judged, day-judged, name-judged, ordinal-judged, register-day-judged}
+use Rattle.citation.proofs.Storing.{refusal-kept, refusal-output, refusal-none}
+
+module _ (s : List ℕ) where
+  -- A record by its kind.
+  kind-judged : Inside 1 4 (kindOf s) → Judged (contentRows s) s (judgeKind s)
+  kind-judged i =
+      by-order (kindOf s) 2
+      (λ h. let e : kindOf s ≡ 1 = omega (arith, i) in subst (Judged (contentRows s) s) (kind-one s refl e refl refl refl refl refl) (day-judged s e))
+      (λ h.
+      by-order (kindOf s) 3
+      (λ l. let e : kindOf s ≡ 2 = omega arith in subst (Judged (contentRows s) s) (kind-two s refl e refl refl refl refl refl) (name-judged s e))
+      (λ l.
+      by-order (kindOf s) 4
+      (λ m. let e : kindOf s ≡ 3 = omega arith in subst (Judged (contentRows s) s) (kind-three s refl e refl refl refl) (ordinal-judged s e))
+      (λ m. let e : kindOf s ≡ 4 = omega (arith, i) in subst (Judged (contentRows s) s) (kind-four s refl e refl refl) (register-day-judged s e))))
+
+  -- It is a record: its content decides.
+  content-decides : (j : Judgement) → (TooShort s → ⊥) → (WrongKind s → ⊥) → (WrongLength s → ⊥)
+      → Judged (contentRows s) s j
+      → Judged (citationRows s) s j
+  content-decides j a b d (Judged.refused number some e rows) = Judged.refused number some e (inr (a, inr (b, inr (d, rows))))
+  content-decides j a b d (Judged.accepted z rows kept) = Judged.accepted z (inr (a, inr (b, inr (d, rows)))) kept
+
+  pub judged : Judged (citationRows s) s (judgeOf s)
+  judged =
+      by-order (length s) 4
+      (λ h. Judged.refused SHORT (omega arith) (sym (too-short s h refl)) (inl (refl, h)))
+      (λ h.
+      by-inside 1 4 (kindOf s)
+      (λ e out. Judged.refused KIND (omega arith) (sym (wrong-kind s refl h out refl)) (inr (λ v. omega arith, inl (refl, out))))
+      (λ e into.
+      by-length s
+      (λ l wrong.
+      Judged.refused LENGTH (omega arith) (sym (wrong-length s refl h into l refl))
+      (inr (λ v. omega arith, inr (λ v. v into, inl (refl, wrong)))))
+      (λ l right.
+      subst (Judged (citationRows s) s) (right-record s refl h into l refl)
+      (content-decides (judgeKind s) (λ v. omega arith) (λ v. v into) (λ v. v right) (kind-judged into)))))
+
+-- The number that the storing step answers is that of the first row that applies, and 0 where none does;
+pub refusal-first : (s : List ℕ) (room : ℕ) → FirstOf (storingRows s room) (refusalOf s room)
+refusal-first s room = go (judged s)
+  where
+    go : Judged (citationRows s) s (judgeOf s) → FirstOf (storingRows s room) (refusalOf s room)
+    go (Judged.refused number some e rows) =
+        let number-is = ap (λ j. j .refusal) e in
+        subst (FirstOf (storingRows s room)) (sym (refusal-kept s room (judgeOf s) refl (λ z. omega arith) ∙ number-is))
+        (first-before (citationRows s) (OUTPUT when NoRoom room ∷ []) number some rows)
+    go (Judged.accepted z rows kept) =
+        by-order room 10
+        (λ h.
+        subst (FirstOf (storingRows s room)) (sym (refusal-output s room (judgeOf s) refl z h))
+        (first-after (citationRows s) (OUTPUT when NoRoom room ∷ []) OUTPUT (omega arith) rows (inl (refl, h))))
+        (λ h.
+        subst (FirstOf (storingRows s room)) (sym (refusal-none s room (judgeOf s) refl z h))
+        (first-after (citationRows s) (OUTPUT when NoRoom room ∷ []) 0 (omega arith) rows (inr (λ v. omega arith, refl))))
+
+-- and no other number is.
+pub refusal-only : (s : List ℕ) (room number : ℕ) → FirstOf (storingRows s room) number → number ≡ refusalOf s room
+refusal-only s room number p = first-unique (storingRows s room) number (refusalOf s room) p (refusal-first s room)

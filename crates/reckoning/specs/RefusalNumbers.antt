@@ -1,0 +1,38 @@
+-- The numbers of the refusals: paper 01, "Numbered refusals". Each name says what is wrong, as in include/chiselbrow.h.
+use Prim.Native.Nat.{ℕ}
+
+-- The input is too short to be a record.
+abbrev pub SHORT : ℕ
+SHORT = 1
+
+-- There is no such kind.
+abbrev pub KIND : ℕ
+KIND = 2
+
+-- A length is not that of the kind.
+abbrev pub LENGTH : ℕ
+LENGTH = 3
+
+-- There is no such system.
+abbrev pub SYSTEM : ℕ
+SYSTEM = 4
+
+-- The year is out of scope.
+abbrev pub YEAR : ℕ
+YEAR = 5
+
+-- The year has no such month.
+abbrev pub MONTH : ℕ
+MONTH = 6
+
+-- The month or the year has no such day, or the register day is out of scope.
+abbrev pub DAY : ℕ
+DAY = 7
+
+-- The output is too short for a stored record.
+abbrev pub OUTPUT : ℕ
+OUTPUT = 8
+
+-- There is no such qi.
+abbrev pub QI : ℕ
+QI = 9

@@ -1,0 +1,19 @@
+// The numbers of the refusals: paper 01, "Numbered refusals". Each name says what is wrong, as in include/chiselbrow.h;
+// 0 is no refusal.
+pub const SHORT: u8 = 1;
+
+pub const KIND: u8 = 2;
+
+pub const LENGTH: u8 = 3;
+
+pub const SYSTEM: u8 = 4;
+
+pub const YEAR: u8 = 5;
+
+pub const MONTH: u8 = 6;
+
+pub const DAY: u8 = 7;
+
+pub const OUTPUT: u8 = 8;
+
+pub const QI: u8 = 9;
