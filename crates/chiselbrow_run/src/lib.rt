@@ -5,10 +5,10 @@ ghost use Prim.Native.Nat.{_≤_};
 ghost use lib.ListN.{length};
 ghost use Rattle.process.specs.Exit.{Written, Ended};
 ghost use Rattle.chiselbrow_run.specs.Buffers.{Buffers};
+use arguments::options;
+use arguments::options::Wish;
 use libc::STDERR_FILENO;
 use process::exit;
-use process::options;
-use process::options::Wish;
 use process::streams;
 use turn::answer;
 

@@ -25,5 +25,3 @@ pub mod KindOne
 pub mod Demands
 -- The proved examples of paper 01.
 pub mod Examples
--- A stored record's month and day have two digits at most.
-pub mod TwoDigits

@@ -11,5 +11,3 @@ pub mod Store
 pub mod DemandWords
 -- What the parts of the judgement are handed.
 pub mod JudgeInputs
--- The month and the day of a stored record have two digits at most.
-pub mod SmallFields

@@ -9,6 +9,7 @@ use lib.Seq.{length-take-le}
 use borrow.Author.Tests.{le-leb, lt-leb, ne-eqb}
 use Rattle.calendar.proofs.Cases.{by-bool}
 use Rattle.reckoning.proofs.RefusalCases.{inside-of}
+use Rattle.reckoning.specs.RefusalNumbers.{SHORT}
 use Rattle.citation.specs.Record.{lengthField}
 use Rattle.text.specs.Piece.{refusedLine}
 use Rattle.lines.specs.Line.{lineOf}
@@ -76,7 +77,7 @@ output-line s e =
     ap written (framing-more s e)
     ∙ append-assoc (lineOf (take (lengthField s) s)) (linesOf (others .records)) (endingOf (others .rest))
 
-pub output-stop : (s : List ℕ) → 0 < length s → framed s ≡ false → outputOf s ≡ refusedLine 1
+pub output-stop : (s : List ℕ) → 0 < length s → framed s ≡ false → outputOf s ≡ refusedLine SHORT
 unfolding linesOf
 output-stop s some e = ap written (framing-none s e) ∙ simp (ne-eqb (length s) 0 (λ z. omega arith))
 

@@ -6,7 +6,7 @@ use Rattle.reckoning.specs.ComputedRefusals.{yearRefusal}
 use Rattle.reckoning.specs.Requests.{daysOf, monthOf, monthIn, dateOf, dateIn}
 use Rattle.citation.specs.Store.{judgeRegisterDay, judgeOrdinal, judgeDay, judgeName, judgeKind, lengthRight, judgeOf}
 use Rattle.text.specs.Decimal.{decimal}
-use Rattle.text.specs.Piece.{field, fields, year, month}
+use Rattle.text.specs.Piece.{word, field, fields, year, month}
 use Rattle.lines.specs.Line.{lineOf, storedLine}
 use Rattle.lines.specs.Program.{framingWithin, linesOf, outputOf}
 
@@ -27,6 +27,6 @@ abbrev pub last-line : List ℕ
 last-line = 114 ∷ 101 ∷ 102 ∷ 117 ∷ 115 ∷ 101 ∷ 100 ∷ 32 ∷ 49 ∷ 10 ∷ []
 
 pub shown-run : outputOf (case-9 ++ 0x00 ∷ []) ≡ day-line ++ day-line ++ day-line ++ day-line ++ last-line
-unfolding framingWithin linesOf lineOf storedLine year month field fields decimal
+unfolding framingWithin linesOf lineOf storedLine year month word field fields decimal
     judgeOf lengthRight judgeKind judgeDay judgeName judgeOrdinal judgeRegisterDay yearRefusal daysOf monthOf monthIn dateOf dateIn
 shown-run = refl

@@ -12,6 +12,7 @@ use Rattle.citation.specs.Store.{judgeOf}
 use Rattle.calendar.proofs.Cases.{by-bool}
 use Rattle.calendar.specs.declared.data.DayName.{DayName}
 use Rattle.calendar.specs.SixtyDayName.{nameOf}
+use Rattle.reckoning.specs.RefusalNumbers.{SHORT}
 use Rattle.citation.specs.Record.{systemOf, yearField, monthField, leapField, dayField}
 use Rattle.text.specs.Piece.{year, month, line, refusedLine}
 use Rattle.text.specs.Wrote.{Wrote}
@@ -84,6 +85,6 @@ module _ (rest : List ℕ) where
   pub put-no-ending : (b : List ℕ) (at : ℕ) → length rest ≡ 0 → Put b at 19 (endingOf rest) b at
   put-no-ending b at none = simp (eq-eqb (length rest) 0 none) (put-nothing b at 19)
 
-  pub put-ending : {b a : List ℕ} {at end : ℕ} → (length rest ≡ 0 → ⊥) → Put b at 19 (refusedLine 1) a end
+  pub put-ending : {b a : List ℕ} {at end : ℕ} → (length rest ≡ 0 → ⊥) → Put b at 19 (refusedLine SHORT) a end
       → Put b at 19 (endingOf rest) a end
   put-ending some p = simp (ne-eqb (length rest) 0 some) p

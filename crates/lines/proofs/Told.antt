@@ -5,7 +5,7 @@ use mathlib.Core.List.{List}
 use native.Mathlib.Omega.{arith}
 use Rattle.reckoning.specs.WordedRefusals.{FirstOf}
 use Rattle.citation.specs.Record.{systemOf, recordOf}
-use Rattle.citation.specs.DayCited.{NamesDayDay, OnDate}
+use Rattle.citation.specs.DayCited.{NamesDay, OnDate}
 use Rattle.citation.specs.CitationRefusals.{citationRows, Accepted}
 use Rattle.citation.specs.Store.{judgeOf}
 use Rattle.citation.proofs.RowLaws.{first-unique}

@@ -6,6 +6,7 @@ use mathlib.Core.List.{List, [], _∷_, _++_}
 use lib.Dec.{leb, eqb}
 use lib.ListN.{length, take, drop}
 use Rattle.reckoning.specs.ComputedRefusals.{outside}
+use Rattle.reckoning.specs.RefusalNumbers.{SHORT}
 use Rattle.citation.specs.Record.{lengthField}
 use Rattle.lines.specs.declared.convert.Progress.{Progress}
 use Rattle.text.specs.Piece.{refusedLine}
@@ -48,7 +49,7 @@ linesOf (r ∷ records) = lineOf r ++ linesOf records
 
 -- and `refused 1` where a byte is left.
 abbrev pub endingOf : List ℕ → List ℕ
-endingOf rest = cond (eqb (length rest) 0) [] (refusedLine 1)
+endingOf rest = cond (eqb (length rest) 0) [] (refusedLine SHORT)
 
 -- What the program writes on input s.
 abbrev pub outputOf : List ℕ → List ℕ

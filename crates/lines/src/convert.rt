@@ -8,6 +8,7 @@ ghost use Rattle.lines.specs.Program.{misframed, nextOf, Converted, endi
 use crate::line::put_line;
 use little_endian::le16;
 use reckoning::refusal::outside;
+use reckoning::refusal_numbers::SHORT;
 
 // How far a buffer was read, and how much was written.
 pub struct Progress {
@@ -80,5 +81,5 @@ pub fn ending(out: &mut [u8], at: usize, rest: &[u8]) -> usize
     if rest.len() == 0 {
         return at;
     }
-    text::refused(out, at, 1)
+    text::refused(out, at, SHORT)
 }

@@ -1,4 +1,3 @@
-// What a program has of the system: standard input and output, its options, and the status that it exits with.
+// What a program has of the system: standard input and output, and the status that it exits with.
 pub mod exit;
-pub mod options;
 pub mod streams;

@@ -7,7 +7,7 @@ use lib.ListN.{length, length-append}
 use borrow.Author.Tests.{lt-ltb, le-ltb, eq-eqb, ne-eqb}
 use Rattle.calendar.proofs.Rising.{by-order}
 use Rattle.text.specs.Decimal.{twoDigits, below100, decimal}
-use Rattle.text.specs.Piece.{field, letterOf, year, star, month, fields, newline, line}
+use Rattle.text.specs.Piece.{word, field, letterOf, year, star, month, fields, newline, line}
 
 below-100-length : (n : ℕ) → length (below100 n) ≤ 2
 below-100-length n =
@@ -62,11 +62,12 @@ fields-length [] = omega arith
 fields-length (n ∷ numbers) =
     omega (arith, length-append (field n) (fields numbers), field-length n, fields-length numbers)
 
-pub line-length : (word numbers : List ℕ) → length (line word numbers) ≤ length word + 11 * length numbers + 1
-line-length word numbers =
+pub line-length : (bytes numbers : List ℕ) → length (line bytes numbers) ≤ length bytes + 11 * length numbers + 1
+unfolding word
+line-length bytes numbers =
     omega (
       arith,
-      length-append word (fields numbers ++ newline),
+      length-append bytes (fields numbers ++ newline),
       length-append (fields numbers) newline,
       fields-length numbers,
     )

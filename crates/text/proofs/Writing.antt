@@ -12,7 +12,7 @@ use lib.Seq.{paste, paste-suc, length-paste}
 use borrow.Author.Tests.{eq-eqb, ne-eqb}
 use Rattle.calendar.proofs.Rising.{by-order}
 use Rattle.text.specs.Decimal.{decimal}
-use Rattle.text.specs.Piece.{field, letterOf, year, star, month, fields}
+use Rattle.text.specs.Piece.{word, field, letterOf, year, star, month, fields}
 use Rattle.text.specs.Wrote.{Wrote}
 
 -- One byte.
@@ -146,7 +146,8 @@ copied-more b at text i e h l =
     ∙ ap (paste b at text) (sym (add-one i))
 
 pub wrote-copied : {o : List ℕ} (b : List ℕ) (at : ℕ) (text : List ℕ) (i : ℕ) → o ≡ paste b at text i → at + length text ≤ length b
-    → i ≡ length text → Wrote b at text o (at + i)
+    → i ≡ length text → Wrote b at (word text) o (at + i)
+unfolding word
 wrote-copied {o} b at text i e h all =
     let whole : o ≡ paste b at text (length text) = e ∙ ap (paste b at text) all in
     record {

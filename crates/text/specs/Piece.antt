@@ -5,6 +5,10 @@ use mathlib.Core.List.{List, [], _∷_, _++_}
 use lib.Dec.{eqb}
 use Rattle.text.specs.Decimal.{decimal}
 
+-- A word, as its bytes.
+unfoldable pub word : List ℕ → List ℕ
+word bytes = bytes
+
 -- A space and a number.
 unfoldable pub field : ℕ → List ℕ
 field n = 32 ∷ decimal n
@@ -19,7 +23,7 @@ newline = 10 ∷ []
 
 -- A line: a word, and a field for each number.
 abbrev pub line : List ℕ → List ℕ → List ℕ
-line word numbers = word ++ (fields numbers ++ newline)
+line bytes numbers = word bytes ++ (fields numbers ++ newline)
 
 -- The letter of a system, G or J; '?' of a number that is no system's.
 abbrev pub letterOf : ℕ → ℕ

@@ -5,13 +5,13 @@ ghost use mathlib.Core.Path.{_≡_};
 ghost use Prim.Native.Nat.{_+_, _*_, _^_, _<_};
 ghost use lib.Dec.{ltb};
 ghost use lib.ListN.{length};
-ghost use Rattle.text.specs.Piece.{field, year, month, line, refusedLine};
+ghost use Rattle.text.specs.Piece.{word, field, year, month, line, refusedLine};
 ghost use Rattle.text.specs.Put.{Put};
 
 mod put;
 
 // Whether an output of that length has fewer than `room` bytes left at a place.
-fn is_short(length: usize, at: usize, room: usize) -> bool
+pub fn is_short(length: usize, at: usize, room: usize) -> bool
     ensures { λ r. ⌜ r ≡ ltb length (at + room) ⌝ }
 {
     if length < room {
@@ -26,7 +26,7 @@ fn is_short(length: usize, at: usize, room: usize) -> bool
 // A word, as its bytes.
 pub fn word(out: &mut [u8], at: usize, bytes: &[u8]) -> usize
     ensures { λ r. ⌜
-        Put (now (out .entry)) at (length (now (bytes .entry))) (now (bytes .entry)) (now (out .exit)) r
+        Put (now (out .entry)) at (length (now (bytes .entry))) (word (now (bytes .entry))) (now (out .exit)) r
         ⌝ }
 {
     if is_short(out.len(), at, bytes.len()) {

@@ -6,7 +6,7 @@ ghost use mathlib.Core.List.{[], _∷_};
 ghost use lib.Dec.{eqb, ltb};
 ghost use lib.ListN.{length};
 ghost use Rattle.text.specs.Decimal.{twoDigits, fourDigits, decimal};
-ghost use Rattle.text.specs.Piece.{field, letterOf, year, star, month, fields, line};
+ghost use Rattle.text.specs.Piece.{word, field, letterOf, year, star, month, fields, line};
 ghost use Rattle.text.specs.Wrote.{Wrote};
 
 fn byte(out: &mut [u8], at: usize, b: u8) -> usize
@@ -189,7 +189,7 @@ fn fields(out: &mut [u8], start: usize, numbers: &[u32]) -> usize
 pub(crate) fn word(out: &mut [u8], at: usize, bytes: &[u8]) -> usize
     requires { ⌜ at + length (now bytes) ≤ length (now out) ⌝ }
     ensures { λ r. ⌜
-        Wrote (now (out .entry)) at (now (bytes .entry)) (now (out .exit)) r × (r ≤ at + length (now (bytes .entry)))
+        Wrote (now (out .entry)) at (word (now (bytes .entry))) (now (out .exit)) r × (r ≤ at + length (now (bytes .entry)))
         ⌝ }
 {
     let mut i = 0;

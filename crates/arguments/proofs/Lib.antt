@@ -1,0 +1,7 @@
+-- Laws that serve several functions.
+-- Decimal arguments, digit by digit.
+pub mod Digits
+-- Numbers of any length, place by place.
+pub mod Places
+-- The years of a range, by what its ends are.
+pub mod Ranges

@@ -1,0 +1,7 @@
+-- What arguments are read as.
+-- The options that every program has.
+pub mod Options
+-- Decimal numbers.
+pub mod Number
+-- How many years a range has.
+pub mod Years

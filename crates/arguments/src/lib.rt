@@ -1,0 +1,4 @@
+// Arguments read from their text: options, a decimal number, the years of a range.
+pub mod number;
+pub mod options;
+pub mod years;
