@@ -1,43 +1,28 @@
 -- The text of a page from its pieces.
-use Prim.Native.Nat.{ℕ, _+_, _≤_}
-use mathlib.Core.Path.{_≡_, refl, subst, ap, sym}
+use Prim.Native.Nat.{ℕ, _+_, _*_, _-_, _≤_, _<_}
+use mathlib.Core.Path.{_≡_, ap, ap₂, subst, sym, _∙_}
 use mathlib.Core.Bool.{cond}
 use mathlib.Core.List.{List, [], _∷_, _++_}
 use native.Mathlib.Numerals.{add-one}
 use native.Mathlib.Omega.{arith}
 use lib.Dec.{eqb}
-use lib.ListN.{length, take, drop, take-append-drop}
+use lib.ListN.{length}
 use borrow.Author.Tests.{eq-eqb, ne-eqb}
-use Rattle.calendar.specs.Systems.{constantsOf, yearsElapsed}
+use Rattle.calendar.specs.SixtyDayName.{nameOf}
+use Rattle.reckoning.specs.declared.data.Days.{Days}
+use Rattle.reckoning.specs.declared.data.Qi.{Qi}
+use Rattle.reckoning.specs.declared.data.Sheet.{Sheet}
+use Rattle.reckoning.specs.declared.data.Solstice.{Solstice}
 use Rattle.reckoning.specs.declared.data.Year.{Year}
-use Rattle.reckoning.specs.Requests.{yearOf, sheetOf, daysIn, noDays, daysOf}
-use Rattle.reckoning.proofs.AnswerUnless.{refused-year, answered-year}
-use Rattle.reckoning.proofs.RegisterLaws.{register-length-most}
-use Rattle.reckoning.proofs.RefusalCases.{by-scope}
-use Rattle.reckoning.proofs.ScopeInRegister.{year-in-register}
-use Rattle.lines.specs.Line.{star, refusedLine}
-use Rattle.lines.specs.Wrote.{Wrote}
-use Rattle.lines.proofs.Writing.{wrote-then}
-use Rattle.almanac.specs.Page.{textsUpTo, yearLines, pageOf}
-
--- No text at all.
-pub wrote-none : (b : List ℕ) (at : ℕ) → at ≤ length b → Wrote b at [] b at
-wrote-none b at h =
-    let here : at ≡ at + 0 = omega arith in
-    record {
-      is = subst (λ n. b ≡ take at b ++ drop n b) here (sym (take-append-drop at b));
-      ends = here;
-      fits = h;
-      same-length = refl;
-    }
-
--- A month with no star, and one with it.
-pub wrote-no-star : {b : List ℕ} {at : ℕ} (leap : ℕ) → leap ≡ 0 → at ≤ length b → Wrote b at (star leap) b at
-wrote-no-star {b} {at} leap z h = simp (eq-eqb leap 0 z) (wrote-none b at h)
-
-pub wrote-star : {b a : List ℕ} {at e : ℕ} (leap : ℕ) → (leap ≡ 0 → ⊥) → Wrote b at (42 ∷ []) a e
-    → Wrote b at (star leap) a e
-wrote-star leap z w = simp (ne-eqb leap 0 z) w
+use Rattle.reckoning.specs.Requests.{solsticeOf, qiOf, yearOf, sheetOf, daysOf}
+use Rattle.reckoning.specs.YearValue.{headIn, numberIn, leapIn}
+use Rattle.text.specs.Piece.{word, year, month, numbered, line, refusedLine}
+use Rattle.text.specs.Put.{Put}
+use Rattle.text.specs.Wrote.{Wrote}
+use Rattle.text.proofs.Writing.{wrote-as, wrote-none, wrote-then}
+use Rattle.text.proofs.Putting.{Puts, put-wrote}
+use Rattle.pages.specs.Page.{textsUpTo, yearLine, solsticeLine, qiLine, qiLines, solarLines, monthLine, monthLines, nextLine}
+use Rattle.pages.specs.Page.{lunarLines, nameAt, sheetNames, namesLine, qiAt, monthAt, yearLines, pageOf}
 
 -- Texts in order: none yet, and one more.
 module _ (text : ℕ → List ℕ) where
@@ -50,31 +35,138 @@ module _ (text : ℕ → List ℕ) where
   unfolding textsUpTo
   wrote-one-more n w v = rw (add-one n) (wrote-then w v)
 
--- A sheet has room for the days of its year.
-pub days-most : (system year : ℕ) → (daysOf system year) .length ≤ 384
-unfolding daysOf
-days-most system year =
-    by-scope system year
-    (λ no-system e. omega (arith, ap (λ v. v .length) (refused-year daysIn noDays system year 4 e (omega arith))))
-    (λ system-inside no-year e.
-    omega (arith, ap (λ v. v .length) (refused-year daysIn noDays system year 5 e (omega arith))))
-    (λ s.
-    let c = constantsOf system in
-    let most = register-length-most c (yearsElapsed c year) (year-in-register system year (s .year-inside)) in
-    omega (arith, ap (λ v. v .length) (answered-year daysIn noDays system year s)))
+-- A loop's texts, one more and all.
+pub wrote-qi-more : {b m a : List ℕ} {at p e : ℕ} {qi : Qi} (system n i : ℕ) → qi ≡ qiOf system n i
+    → Wrote b at (textsUpTo (qiAt system n) i) m p → Wrote m p (qiLine i qi) a e
+    → Wrote b at (textsUpTo (qiAt system n) (i + 1)) a e
+wrote-qi-more system n i is w v = wrote-one-more (qiAt system n) i w (wrote-as (ap (qiLine i) is) v)
 
--- The page from a year's months: of a refused year, and of one answered.
-module _ (system year : ℕ) (months : Year) (is : months ≡ yearOf system year) where
-  abbrev lines-of : Year → List ℕ
-  lines-of v = yearLines system year v ((daysOf system year) .length) (sheetOf system year)
+pub wrote-month-more : {b m a : List ℕ} {at p e : ℕ} (months : Year) (i : ℕ) → Wrote b at (textsUpTo (monthAt months) i) m p
+    → Wrote m p (monthAt months i) a e → Wrote b at (textsUpTo (monthAt months) (i + 1)) a e
+wrote-month-more months i w v = wrote-one-more (monthAt months) i w v
 
-  abbrev page-by : Year → List ℕ
-  page-by v = cond (eqb (v .refusal) 0) (lines-of v) (refusedLine (v .refusal))
+pub wrote-name-more : {b m a : List ℕ} {start p e : ℕ} (sheet : Sheet) (count i : ℕ)
+    → Wrote b start (textsUpTo (nameAt sheet) i) m p
+    → Put m p 11 (nameAt sheet i) a e
+    → start + 4224 ≤ length b
+    → p ≤ start + 11 * i
+    → i < count
+    → count ≤ 384
+    → Wrote b start (textsUpTo (nameAt sheet) (i + 1)) a e
+wrote-name-more sheet count i w v room near more most =
+    wrote-one-more (nameAt sheet) i w (put-wrote v (omega (arith, w .same-length)))
 
-  pub page-refused : (months .refusal ≡ 0 → ⊥) → refusedLine (months .refusal) ≡ pageOf system year
+pub wrote-qi-lines : {b a : List ℕ} {at e : ℕ} (system n i : ℕ) → i ≤ 24 → 24 ≤ i
+    → Wrote b at (textsUpTo (qiAt system n) i) a e → Wrote b at (qiLines system n) a e
+unfolding qiLines
+wrote-qi-lines system n i l h w = let all : i ≡ 24 = omega arith in wrote-as (ap (textsUpTo (qiAt system n)) all) w
+
+pub wrote-month-lines : {b a : List ℕ} {at e : ℕ} (months : Year) (count i : ℕ) → count ≡ months .count → i ≤ count → count ≤ i
+    → Wrote b at (textsUpTo (monthAt months) i) a e → Wrote b at (monthLines months) a e
+unfolding monthLines
+wrote-month-lines months count i is l h w =
+    let all : i ≡ months .count = omega arith in wrote-as (ap (textsUpTo (monthAt months)) all) w
+
+pub wrote-sheet-names : {b a : List ℕ} {at e : ℕ} (sheet : Sheet) (days count i : ℕ) → count ≡ days → i ≤ count → count ≤ i
+    → Wrote b at (textsUpTo (nameAt sheet) i) a e → Wrote b at (sheetNames sheet days) a e
+unfolding sheetNames
+wrote-sheet-names sheet days count i is l h w =
+    let all : i ≡ days = omega arith in wrote-as (ap (textsUpTo (nameAt sheet)) all) w
+
+-- Lines told by their own definitions, a name by its day.
+module _ {b a : List ℕ} {at e rooms : ℕ} where
+  pub put-year-line : (system n months days : ℕ)
+      → Puts b at rooms (word (121 ∷ 101 ∷ 97 ∷ 114 ∷ 32 ∷ []) ++ (year system n ++ line [] (months ∷ days ∷ []))) a e
+      → Puts b at rooms (yearLine system n months days) a e
+  unfolding yearLine
+  put-year-line system n months days w = w
+
+  pub put-solstice : {name : ℕ} (s : Solstice) → name ≡ nameOf (s .day .0)
+      → Puts b at rooms
+      (line (115 ∷ 111 ∷ 108 ∷ 115 ∷ 116 ∷ 105 ∷ 99 ∷ 101 ∷ []) (s .day .0 ∷ name ∷ s .remainder ∷ [])) a e
+      → Puts b at rooms (solsticeLine s) a e
+  unfolding solsticeLine
+  put-solstice s is w = rw is at w
+
+  pub put-qi : {name : ℕ} (i : ℕ) (qi : Qi) → name ≡ nameOf (qi .day .0)
+      → Puts b at rooms (line (113 ∷ 105 ∷ []) (i ∷ qi .day .0 ∷ name ∷ qi .parts ∷ qi .units ∷ [])) a e
+      → Puts b at rooms (qiLine i qi) a e
+  unfolding qiLine
+  put-qi i qi is w = rw is at w
+
+  pub put-month-line : (place number leap head name days : ℕ)
+      → Puts b at rooms
+      (numbered (109 ∷ 111 ∷ 110 ∷ 116 ∷ 104 ∷ []) place ++ (month number leap ++ line [] (head ∷ name ∷ days ∷ []))) a e
+      → Puts b at rooms (monthLine place number leap head name days) a e
+  unfolding monthLine
+  put-month-line place number leap head name days w = w
+
+  pub put-next : (months : Year)
+      → Puts b at rooms (line (110 ∷ 101 ∷ 120 ∷ 116 ∷ []) (headIn months (months .count) ∷ [])) a e
+      → Puts b at rooms (nextLine months) a e
+  unfolding nextLine
+  put-next months w = w
+
+pub wrote-month-at : {b a : List ℕ} {at e name : ℕ} (months : Year) (i : ℕ) → name ≡ nameOf (headIn months i)
+    → Wrote b at
+    (monthLine (i + 1) (numberIn months i) (leapIn months i) (headIn months i) name (headIn months (i + 1) - headIn months i)) a e
+    → Wrote b at (monthAt months i) a e
+unfolding monthAt
+wrote-month-at months i is w = rw is at w
+
+-- The lines of the sun, of the moon, and of the names.
+module _ {b m a : List ℕ} {at p e : ℕ} where
+  pub wrote-solar : {solstice : Solstice} (system n : ℕ) → solstice ≡ solsticeOf system n
+      → Wrote b at (solsticeLine solstice) m p → Wrote m p (qiLines system n) a e → Wrote b at (solarLines system n) a e
+  unfolding solarLines
+  wrote-solar system n is w v = wrote-then (wrote-as (ap solsticeLine is) w) v
+
+  pub wrote-lunar : (months : Year) → Wrote b at (monthLines months) m p → Wrote m p (nextLine months) a e
+      → Wrote b at (lunarLines months) a e
+  unfolding lunarLines
+  wrote-lunar months w v = wrote-then w v
+
+pub put-names : {b m₁ m₂ a : List ℕ} {at p₁ p₂ e : ℕ} (sheet : Sheet) (days : ℕ)
+    → Put b at 5 (word (110 ∷ 97 ∷ 109 ∷ 101 ∷ 115 ∷ [])) m₁ p₁
+    → Wrote m₁ p₁ (sheetNames sheet days) m₂ p₂
+    → p₂ ≤ p₁ + 4224
+    → Put m₂ p₂ 1 (word (10 ∷ [])) a e
+    → Puts b at 4230 (namesLine sheet days) a e
+unfolding namesLine
+put-names sheet days first names near last =
+    record {
+      wrote =
+          λ h.
+          let w = put-wrote first (omega arith) in
+          let v = put-wrote last (omega (arith, first .near, w .same-length, names .same-length)) in
+          (wrote-then w (wrote-then names v), omega (arith, first .near, last .near));
+    }
+
+-- The whole page: of a year answered, and of one refused.
+pub wrote-year-lines : {b m₁ m₂ m₃ a : List ℕ} {at p₁ p₂ p₃ e : ℕ} (system n : ℕ) (months : Year) (days : ℕ) (sheet : Sheet)
+    → Wrote b at (yearLine system n (months .count) days) m₁ p₁
+    → Wrote m₁ p₁ (solarLines system n) m₂ p₂
+    → Wrote m₂ p₂ (lunarLines months) m₃ p₃
+    → Wrote m₃ p₃ (namesLine sheet days) a e
+    → Wrote b at (yearLines system n months days sheet) a e
+unfolding yearLines
+wrote-year-lines system n months days sheet w₁ w₂ w₃ w₄ = wrote-then w₁ (wrote-then w₂ (wrote-then w₃ w₄))
+
+abbrev page-by : ℕ → ℕ → Year → List ℕ
+page-by system n v =
+    cond (eqb (v .refusal) 0) (yearLines system n v ((daysOf system n) .length) (sheetOf system n)) (refusedLine (v .refusal))
+
+module _ {b a : List ℕ} {at e : ℕ} {months : Year} (system n : ℕ) (is : months ≡ yearOf system n) where
+  pub put-refused : {rooms : ℕ} → (months .refusal ≡ 0 → ⊥) → Puts b at rooms (refusedLine (months .refusal)) a e
+      → Puts b at rooms (pageOf system n) a e
   unfolding pageOf
-  page-refused h = subst (λ v. refusedLine (months .refusal) ≡ page-by v) is (simp (ne-eqb (months .refusal) 0 h))
+  put-refused {rooms} h w =
+      subst (λ v. Puts b at rooms (page-by system n v) a e) is (simp (ne-eqb (months .refusal) 0 h) w)
 
-  pub page-answered : months .refusal ≡ 0 → lines-of months ≡ pageOf system year
+  pub wrote-page : {days : Days} {sheet : Sheet} → months .refusal ≡ 0 → days ≡ daysOf system n → sheet ≡ sheetOf system n
+      → Wrote b at (yearLines system n months (days .length) sheet) a e
+      → Wrote b at (pageOf system n) a e
   unfolding pageOf
-  page-answered h = subst (λ v. lines-of months ≡ page-by v) is (simp (eq-eqb (months .refusal) 0 h))
+  wrote-page h days-is sheet-is w =
+      let told = wrote-as (ap₂ (λ d s. yearLines system n months (d .length) s) days-is sheet-is) w in
+      subst (λ v. Wrote b at (page-by system n v) a e) is (simp (eq-eqb (months .refusal) 0 h) told)

@@ -7,7 +7,7 @@ use native.Mathlib.Omega.{arith}
 use lib.ListN.{length, take, drop, length-append, length-drop}
 use lib.Seq.{length-take-le}
 use lib.Dec.{leb, ltb}
-use borrow.Author.Tests.{leb-true, lt-ltb, le-ltb, ltb-false}
+use borrow.Author.Tests.{le-leb, leb-true, lt-ltb, le-ltb, ltb-false}
 use Rattle.calendar.proofs.Rising.{by-order}
 use Rattle.text.specs.Wrote.{Wrote}
 use Rattle.text.proofs.Writing.{wrote-none, wrote-then}
@@ -83,6 +83,19 @@ put-then {room = room} {rooms = rooms} q l others =
           let v = others .wrote (omega (arith, w .same-length, q .near)) in
           (wrote-then w (v .0), omega (arith, q .near, v .1));
     }
+
+-- Three pieces at once: a search piece by piece grows too long.
+pub put-three : {b x₁ m₁ x₂ m₂ x₃ a : List ℕ} {at r₁ p₁ r₂ p₂ r₃ e rooms : ℕ}
+    → Put b at r₁ x₁ m₁ p₁
+    → Put m₁ p₁ r₂ x₂ m₂ p₂
+    → Put m₂ p₂ r₃ x₃ a e
+    → leb (r₁ + (r₂ + r₃)) rooms ≡ true
+    → Puts b at rooms (x₁ ++ (x₂ ++ x₃)) a e
+put-three {r₁ = r₁} {r₂ = r₂} {r₃ = r₃} {rooms = rooms} q₁ q₂ q₃ l =
+    let enough = leb-true (r₁ + (r₂ + r₃)) rooms l in
+    put-then q₁ (le-leb r₁ rooms (omega arith))
+    (put-then q₂ (le-leb r₂ (rooms - r₁) (omega arith))
+    (put-last q₃ (le-leb r₃ (rooms - r₁ - r₂) (omega arith))))
 
 pub all-put : {b x a : List ℕ} {at e rooms : ℕ} → Puts b at rooms x a e → at + rooms ≤ length b
     → Wrote b at x a e × (e ≤ at + rooms)

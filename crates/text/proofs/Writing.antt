@@ -12,7 +12,7 @@ use lib.Seq.{paste, paste-suc, length-paste}
 use borrow.Author.Tests.{eq-eqb, ne-eqb}
 use Rattle.calendar.proofs.Rising.{by-order}
 use Rattle.text.specs.Decimal.{decimal}
-use Rattle.text.specs.Piece.{word, field, letterOf, year, star, month, fields}
+use Rattle.text.specs.Piece.{word, field, letterOf, year, star, month, numbered, fields}
 use Rattle.text.specs.Wrote.{Wrote}
 
 -- One byte.
@@ -116,6 +116,12 @@ pub wrote-month : {b m a : List ℕ} {at p e : ℕ} (number leap : ℕ) → Wrot
     → Wrote b at (month number leap) a e
 unfolding month
 wrote-month number leap w v = wrote-then w v
+
+-- A word and a number after it.
+pub wrote-numbered : {b m a : List ℕ} {at p e : ℕ} (bytes : List ℕ) (n : ℕ) → Wrote b at (word bytes) m p → Wrote m p (field n) a e
+    → Wrote b at (numbered bytes n) a e
+unfolding numbered
+wrote-numbered bytes n w v = wrote-then w v
 
 -- A field more.
 fields-after : (numbers : List ℕ) (n : ℕ) → fields (numbers ++ n ∷ []) ≡ fields numbers ++ field n

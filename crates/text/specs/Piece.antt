@@ -13,6 +13,10 @@ word bytes = bytes
 unfoldable pub field : ℕ → List ℕ
 field n = 32 ∷ decimal n
 
+-- A word and a number after it.
+unfoldable pub numbered : List ℕ → ℕ → List ℕ
+numbered bytes n = word bytes ++ field n
+
 -- A field for each number, in order.
 unfoldable pub fields : List ℕ → List ℕ
 fields [] = []

@@ -5,7 +5,7 @@ ghost use mathlib.Core.Path.{_≡_};
 ghost use Prim.Native.Nat.{_+_, _*_, _^_, _<_};
 ghost use lib.Dec.{ltb};
 ghost use lib.ListN.{length};
-ghost use Rattle.text.specs.Piece.{word, field, year, month, line, refusedLine};
+ghost use Rattle.text.specs.Piece.{word, field, year, month, numbered, line, refusedLine};
 ghost use Rattle.text.specs.Put.{Put};
 
 mod put;
@@ -63,6 +63,18 @@ pub fn month(out: &mut [u8], at: usize, number: u32, leap: u8) -> usize
         return at;
     }
     put::month(out, at, number, leap)
+}
+
+// A word, a space and a number.
+pub fn numbered(out: &mut [u8], at: usize, bytes: &[u8], n: u32) -> usize
+    ensures { λ r. ⌜
+        Put (now (out .entry)) at (length (now (bytes .entry)) + 11) (numbered (now (bytes .entry)) n) (now (out .exit)) r
+        ⌝ }
+{
+    if is_short(out.len(), at, bytes.len() + 11) {
+        return at;
+    }
+    put::numbered(out, at, bytes, n)
 }
 
 // Whether there is no room for a line of a word and so many numbers.

@@ -6,7 +6,7 @@ ghost use mathlib.Core.List.{[], _∷_};
 ghost use lib.Dec.{eqb, ltb};
 ghost use lib.ListN.{length};
 ghost use Rattle.text.specs.Decimal.{twoDigits, fourDigits, decimal};
-ghost use Rattle.text.specs.Piece.{word, field, letterOf, year, star, month, fields, line};
+ghost use Rattle.text.specs.Piece.{word, field, letterOf, year, star, month, numbered, fields, line};
 ghost use Rattle.text.specs.Wrote.{Wrote};
 
 fn byte(out: &mut [u8], at: usize, b: u8) -> usize
@@ -198,6 +198,18 @@ pub(crate) fn word(out: &mut [u8], at: usize, bytes: &[u8]) -> usize
         i += 1;
     }
     at + i
+}
+
+// A word and a number after it.
+pub(crate) fn numbered(out: &mut [u8], at: usize, bytes: &[u8], n: u32) -> usize
+    requires { ⌜ at + (length (now bytes) + 11) ≤ length (now out) ⌝ }
+    ensures { λ r. ⌜
+        Wrote (now (out .entry)) at (numbered (now (bytes .entry)) n) (now (out .exit)) r
+        × (r ≤ at + (length (now (bytes .entry)) + 11))
+        ⌝ }
+{
+    let next = word(out, at, bytes);
+    field(out, next, n)
 }
 
 // A word, a field for each number, and the line's end.

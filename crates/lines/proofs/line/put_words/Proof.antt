@@ -1,5 +1,5 @@
 use native.Mathlib.Omega.{arith}
-use Rattle.text.proofs.Putting.{all-put, put-then, put-last}
+use Rattle.text.proofs.Putting.{all-put, put-three}
 use borrow.Author.Needs.{needs}
 use Rattle.lines.proofs.line.put_words.Statement.{statement}
 use Rattle.lines.proofs.line.put_words.Tie as tie
@@ -23,7 +23,7 @@ same-length : tie.Need-same-length
 same-length c = search needs
 
 returns : tie.Need-returns
-returns c = all-put (search (put-then, put-last)) (omega arith)
+returns c = all-put (search put-three) (omega arith)
 
 pub put-words-spec : {M : Type 1} → statement M
 put-words-spec =

@@ -1,0 +1,55 @@
+use Prim.Native.Nat.{_+_, _*_, _-_, _≤_}
+use mathlib.Core.Path.{_≡_}
+use native.Mathlib.Omega.{arith}
+use Rattle.text.specs.Wrote.{Wrote}
+use Rattle.pages.specs.Page.{textsUpTo, monthAt}
+use Rattle.pages.proofs.PageText.{wrote-no-texts, wrote-month-more, wrote-month-lines}
+use borrow.Author.Needs.{needs}
+use Rattle.pages.proofs.lunar.month_lines.Statement.{statement}
+use Rattle.pages.proofs.lunar.month_lines.Tie as tie
+
+abbrev Inv-loop : tie.InvT-loop
+Inv-loop out₀ start months count at₀ i₀ out at i =
+    (count ≡ months .count) × (i ≤ count) × (at ≤ start + 62 * i) × Wrote out₀ start (textsUpTo (monthAt months) i) out at
+
+abbrev μ-loop : tie.MeasureT-loop
+μ-loop out₀ start months count at₀ i₀ out at i = count - i
+
+cast-count : tie.Need-cast-count Inv-loop μ-loop
+cast-count c = search needs
+
+loop-holds : tie.Need-loop-holds Inv-loop μ-loop
+loop-holds c = (search needs, omega arith, omega arith, wrote-no-texts _ (omega arith))
+
+month-at-requires : tie.Need-month-at-requires Inv-loop μ-loop
+month-at-requires c κs = search needs
+
+add-i : tie.Need-add-i Inv-loop μ-loop
+add-i c = search needs
+
+loop-less : tie.Need-loop-less Inv-loop μ-loop
+loop-less c = search needs
+
+loop-again : tie.Need-loop-again Inv-loop μ-loop
+loop-again c = (search needs, omega arith, omega arith, search wrote-month-more)
+
+same-length : tie.Need-same-length Inv-loop μ-loop
+same-length c = search needs
+
+returns : tie.Need-returns Inv-loop μ-loop
+returns c = (search wrote-month-lines, omega arith)
+
+pub month-lines-spec : {M : Type 1} → statement M
+month-lines-spec =
+    tie.close
+    (tie.spec
+    Inv-loop
+    μ-loop
+    cast-count
+    loop-holds
+    month-at-requires
+    add-i
+    loop-less
+    loop-again
+    same-length
+    returns)
