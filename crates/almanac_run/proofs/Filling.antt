@@ -1,18 +1,20 @@
 -- A buffer filled with pages, one after another.
-use Prim.Native.Nat.{ℕ, _+_, _≤_, _<_, min}
+use Prim.Native.Nat.{ℕ, _+_, _-_, _≤_, _<_, min}
 use mathlib.Core.Path.{_≡_, ap}
-use mathlib.Core.Logic.{⊎-elim}
+use mathlib.Core.Logic.{inl, inr, ⊎-elim}
 use mathlib.Core.List.{List}
 use native.Mathlib.Omega.{arith}
 use lib.ListN.{length}
 use Rattle.calendar.proofs.Rising.{by-order}
-use Rattle.lines.specs.Wrote.{Wrote}
-use Rattle.lines.proofs.Writing.{wrote-as}
-use Rattle.almanac.specs.declared.range.Filled.{Filled}
-use Rattle.almanac.specs.Argument.{most}
-use Rattle.almanac.specs.Page.{textsUpTo, pageOf}
-use Rattle.almanac.specs.Pages.{yearAfter, pagesOf, FilledWith}
-use Rattle.almanac.proofs.PageText.{wrote-no-texts, wrote-one-more}
+use Rattle.text.specs.Put.{Put}
+use Rattle.text.specs.Wrote.{Wrote}
+use Rattle.text.proofs.Writing.{wrote-as}
+use Rattle.text.proofs.Putting.{put-wrote}
+use Rattle.arguments.specs.Number.{most}
+use Rattle.pages.specs.Page.{textsUpTo, pageOf}
+use Rattle.pages.proofs.PageText.{wrote-no-texts, wrote-one-more}
+use Rattle.almanac_run.specs.declared.range.Filled.{Filled}
+use Rattle.almanac_run.specs.Pages.{yearAfter, pagesOf, FilledWith}
 
 -- So many pages are there; the year after them is next.
 pub record Filling (system first : ℕ) (before out : List ℕ) (pages year end : ℕ) : Type 0 where
@@ -23,16 +25,34 @@ pub filling-starts : (system first : ℕ) (before : List ℕ) → first ≤ most
 filling-starts system first before h =
     record { text = wrote-no-texts (λ i. pageOf system (yearAfter first i)) (omega arith); year-after = omega arith }
 
-pub filling-more : (system first : ℕ) (before out out′ : List ℕ) (pages year year′ end end′ : ℕ)
-    → Filling system first before out pages year end
-    → Wrote out end (pageOf system year) out′ end′
-    → year′ ≡ min most (year + 1)
-    → Filling system first before out′ (pages + 1) year′ end′
-filling-more system first before out out′ pages year year′ end end′ f w e =
-    record {
-      text = wrote-one-more (λ i. pageOf system (yearAfter first i)) pages (f .text) (wrote-as (ap (pageOf system) (f .year-after)) w);
-      year-after = omega (arith, f .year-after);
-    }
+module _ {system first : ℕ} {before out : List ℕ} {pages year end : ℕ} (f : Filling system first before out pages year end) where
+  pub filling-more : {out′ : List ℕ} {year′ end′ : ℕ}
+      → Put out end 8192 (pageOf system year) out′ end′
+      → 8192 ≤ length out - end
+      → year′ ≡ min most (year + 1)
+      → Filling system first before out′ (pages + 1) year′ end′
+  filling-more p room e =
+      let w = put-wrote p (omega (arith, f .text .fits, f .text .same-length)) in
+      record {
+        text = wrote-one-more (λ i. pageOf system (yearAfter first i)) pages (f .text) (wrote-as (ap (pageOf system) (f .year-after)) w);
+        year-after = omega (arith, f .year-after);
+      }
+
+  -- All are there, or the buffer is full.
+  pub filled-all : (count : ℕ) → pages ≤ count → count ≤ pages
+      → FilledWith system first count before out (record { pages = pages; year = year; end = end })
+  filled-all count l h =
+      record { text = f .text; year-after = f .year-after; no-more = l; all-or-full = inl (omega arith) }
+
+  pub filled-full : (count : ℕ) → pages ≤ count → length out - end < 8192
+      → FilledWith system first count before out (record { pages = pages; year = year; end = end })
+  filled-full count l full =
+      record {
+        text = f .text;
+        year-after = f .year-after;
+        no-more = l;
+        all-or-full = inr (omega (arith, f .text .same-length));
+      }
 
 -- A buffer with room for a page takes at least one.
 pub some-page : (system first count : ℕ) (before after : List ℕ) (r : Filled)
@@ -45,3 +65,20 @@ some-page system first count before after r f some room =
     let none : r .pages ≡ 0 = omega arith in
     let nothing : length (pagesOf system first (r .pages)) ≡ 0 = ap (λ n. length (pagesOf system first n)) none in
     ⊎-elim (λ e. omega arith) (λ full. omega (arith, f .text .ends)) (f .all-or-full))
+
+-- A turn on a buffer with room for a page leaves fewer years, and goes on with the year after those written.
+pub record Going (first count : ℕ) (year left : ℕ) : Type 0 where
+  pub no-more : left ≤ count
+  pub year-is : year ≡ yearAfter first (count - left)
+
+module _ {system year left : ℕ} {before after : List ℕ} {r : Filled} (f : FilledWith system year left before after r)
+    (some : 0 < left) where
+  pub fewer : 8192 ≤ length before → left - r .pages < left
+  fewer room = omega (arith, some-page _ _ _ _ _ _ f some room, f .no-more)
+
+  pub goes-on : {first count : ℕ} → Going first count year left → Going first count (r .year) (left - r .pages)
+  goes-on g =
+      record {
+        no-more = omega (arith, g .no-more);
+        year-is = omega (arith, f .year-after, f .no-more, g .no-more, g .year-is);
+      }

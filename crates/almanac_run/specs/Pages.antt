@@ -4,10 +4,10 @@ use mathlib.Core.Path.{_≡_}
 use mathlib.Core.Logic.{_⊎_}
 use mathlib.Core.List.{List}
 use lib.ListN.{length}
-use Rattle.lines.specs.Wrote.{Wrote}
-use Rattle.almanac.specs.declared.range.Filled.{Filled}
-use Rattle.almanac.specs.Argument.{most}
-use Rattle.almanac.specs.Page.{textsUpTo, pageOf}
+use Rattle.text.specs.Wrote.{Wrote}
+use Rattle.almanac_run.specs.declared.range.Filled.{Filled}
+use Rattle.arguments.specs.Number.{most}
+use Rattle.pages.specs.Page.{textsUpTo, pageOf}
 
 -- The year i years after the first, as a number is told.
 abbrev pub yearAfter : ℕ → ℕ → ℕ

@@ -2,10 +2,12 @@
 ghost use mathlib.Core.Path.{_≡_};
 ghost use Prim.Native.Nat.{_+_, _≤_, min};
 ghost use lib.ListN.{length};
-ghost use Rattle.almanac.specs.Argument.{most};
-ghost use Rattle.almanac.specs.Pages.{FilledWith};
-use crate::page::page;
-use libc::STDOUT_FILENO;
+ghost use Rattle.arguments.specs.Number.{most};
+ghost use Rattle.process.specs.Exit.{Written};
+ghost use Rattle.almanac_run.specs.Pages.{FilledWith};
+use pages::page;
+use process::exit;
+use process::streams;
 
 // Pages put into a buffer: how many, the year after them, and where the last one ends.
 struct Filled {
@@ -47,25 +49,29 @@ fn fill(out: &mut [u8], system: u32, first: u32, count: u64) -> Filled
     }
 }
 
-// Buffer after buffer. A write that fails ends it.
-fn write_pages(out: &mut [u8], system: u32, first: u32, count: u64)
+// Buffer after buffer, and the exit status. A write that fails ends it.
+fn write_pages(out: &mut [u8], system: u32, first: u32, count: u64) -> u32
     requires { ⌜ 8192 ≤ length (now out) ⌝ }
+    ensures { λ r. ⌜ Written r ⌝ }
 {
     let mut year = first;
     let mut left = count;
     while 0 < left {
         let filled = fill(out, system, year, left);
         let end = filled.end;
-        if !io::write_all(STDOUT_FILENO, &out[..end]) {
-            return;
+        if !streams::write(&out[..end]) {
+            return exit::fail(b"almanac: standard output");
         }
         year = filled.year;
         left -= filled.pages;
     }
+    exit::ANSWERED
 }
 
 // The pages of so many years from the first on.
-pub(crate) fn pages(system: u32, first: u32, count: u64) {
+pub(crate) fn pages(system: u32, first: u32, count: u64) -> u32
+    ensures { λ r. ⌜ Written r ⌝ }
+{
     let mut buffer = io::large_buffer();
-    write_pages(&mut buffer, system, first, count);
+    write_pages(&mut buffer, system, first, count)
 }

@@ -1,72 +1,58 @@
-use Prim.Native.Nat.{_-_, _≤_}
-use mathlib.Core.Path.{_≡_, sym, _∙_}
+use Prim.Native.Nat.{_≤_}
+use mathlib.Core.Path.{_≡_, refl, sym}
 use native.Mathlib.Omega.{arith}
 use lib.ListN.{length}
 use lib.Seq.{length-take-le}
 use borrow.Author.Needs.{needs}
-use Rattle.almanac.specs.Pages.{yearAfter}
-use Rattle.almanac.proofs.Filling.{some-page}
-use Rattle.almanac.proofs.range.write_pages.Statement.{statement}
-use Rattle.almanac.proofs.range.write_pages.Tie as tie
+use Rattle.almanac_run.proofs.Filling.{Going, fewer, goes-on}
+use Rattle.almanac_run.proofs.range.write_pages.Statement.{statement}
+use Rattle.almanac_run.proofs.range.write_pages.Tie as tie
 
--- A turn goes on with the year after those that were written.
 abbrev Inv-loop : tie.InvT-loop
-Inv-loop out₀ system first count year₀ left₀ out year left =
-    (length out ≡ length out₀) × (left ≤ count) × (year ≡ yearAfter first (count - left))
+Inv-loop out₀ system first count year₀ left₀ t9 out year left =
+    (length out ≡ length out₀) × (8192 ≤ length out) × Going first count year left
 
 abbrev μ-loop : tie.MeasureT-loop
-μ-loop out₀ system first count year₀ left₀ out year left = left
+μ-loop out₀ system first count year₀ left₀ t9 out year left = left
 
 loop-holds : tie.Need-loop-holds Inv-loop μ-loop
-loop-holds c = omega arith
+loop-holds c = (refl, omega arith, record { no-more = omega arith; year-is = omega arith })
 
 fill-requires : tie.Need-fill-requires Inv-loop μ-loop
 fill-requires c κs = search needs
 
-slice-reshare-prefix-write-all : tie.Need-slice-reshare-prefix-write-all Inv-loop μ-loop
-slice-reshare-prefix-write-all c =
-    let text = c .before .before .fill .ensures .text in
-    omega (arith, text .fits, text .same-length)
+slice-reshare-prefix-write : tie.Need-slice-reshare-prefix-write Inv-loop μ-loop
+slice-reshare-prefix-write c = search needs
 
-slice-aggregate-write-all : tie.Need-slice-aggregate-write-all Inv-loop μ-loop
-slice-aggregate-write-all c =
-    let text = c .before .before .before .fill .ensures .text in
-    sym (length-take-le _ _ (omega (arith, text .fits, text .same-length)))
+slice-aggregate-write : tie.Need-slice-aggregate-write Inv-loop μ-loop
+slice-aggregate-write c = sym (length-take-le _ _ (omega arith))
 
-write-all-requires : tie.Need-write-all-requires Inv-loop μ-loop
-write-all-requires c κs = search needs
+write-requires : tie.Need-write-requires Inv-loop μ-loop
+write-requires c κs = search needs
+
+slice-aggregate-fail : tie.Need-slice-aggregate-fail Inv-loop μ-loop
+slice-aggregate-fail c = search needs
+
+fail-requires : tie.Need-fail-requires Inv-loop μ-loop
+fail-requires c κs = search needs
 
 same-length : tie.Need-same-length Inv-loop μ-loop
-same-length c =
-    let loop = c .before .before .before .before .before .before .before .before .loop in
-    c .before .before .before .before .before .fill .ensures .text .same-length ∙ loop .inv .0
+same-length c = search needs
 
 returns : tie.Need-returns Inv-loop μ-loop
 returns c = search needs
 
 sub-left : tie.Need-sub-left Inv-loop μ-loop
-sub-left c = c .before .before .before .before .before .before .fill .ensures .no-more
+sub-left c = search needs
 
 loop-less : tie.Need-loop-less Inv-loop μ-loop
-loop-less c =
-    let filled = c .before .before .before .before .before .before in
-    let loop = filled .before .before .before .loop in
-    let start = filled .before .before .before .before .before in
-    let some = some-page _ _ _ _ _ _ (filled .fill .ensures) (omega arith) (omega (arith, start .pre, loop .inv .0)) in
-    omega (arith, some, filled .fill .ensures .no-more)
+loop-less c = search fewer
 
 loop-again : tie.Need-loop-again Inv-loop μ-loop
-loop-again c =
-    let filled = c .before .before .before .before .before .before in
-    let loop = filled .before .before .before .loop in
-    let f = filled .fill .ensures in (
-      f .text .same-length ∙ loop .inv .0,
-      omega (arith, loop .inv .1),
-      omega (arith, f .year-after, f .no-more, loop .inv .1, loop .inv .2),
-    )
+loop-again c = (omega arith, omega arith, search goes-on)
 
 same-length-2 : tie.Need-same-length-2 Inv-loop μ-loop
-same-length-2 c = c .before .loop .inv .0
+same-length-2 c = search needs
 
 returns-2 : tie.Need-returns-2 Inv-loop μ-loop
 returns-2 c = search needs
@@ -79,9 +65,11 @@ write-pages-spec =
     μ-loop
     loop-holds
     fill-requires
-    slice-reshare-prefix-write-all
-    slice-aggregate-write-all
-    write-all-requires
+    slice-reshare-prefix-write
+    slice-aggregate-write
+    write-requires
+    slice-aggregate-fail
+    fail-requires
     same-length
     returns
     sub-left

@@ -1,0 +1,95 @@
+// The run of the program almanac: `almanac year SYSTEM FIRST [LAST]`.
+ghost use Rattle.process.specs.Exit.{Written, Ended};
+use arguments::number;
+use arguments::number::Argument;
+use arguments::options;
+use arguments::options::Wish;
+use arguments::years;
+use arguments::years::Years;
+use process::exit;
+
+mod range;
+
+// Argument i as a number. A missing one reads as an empty text, which is none. No argument on Linux is longer than the
+// array.
+fn number_at(i: usize) -> Argument {
+    let mut text = [0u8; 131072];
+    let n = os::arg(i, &mut text);
+    number::read(&text[..n])
+}
+
+// The years from argument i to argument j.
+fn years_at(i: usize, j: usize) -> Years {
+    let mut first = [0u8; 131072];
+    let mut last = [0u8; 131072];
+    let n = os::arg(i, &mut first);
+    let m = os::arg(j, &mut last);
+    years::read(&first[..n], &last[..m])
+}
+
+fn misuse() -> u32
+    ensures { λ r. ⌜ Ended r ⌝ }
+{
+    exit::misuse(b"usage: almanac year SYSTEM FIRST [LAST]\n")
+}
+
+// Writes the pages of the years from FIRST to the last argument, which is FIRST again where LAST is left out. All
+// arguments are read before anything is written.
+fn year_pages(count: usize) -> u32
+    ensures { λ r. ⌜ Ended r ⌝ }
+{
+    if count < 4 {
+        return misuse();
+    }
+    if 5 < count {
+        return misuse();
+    }
+    let Argument::Number(system) = number_at(2) else {
+        return misuse();
+    };
+    let Years::From(first, years) = years_at(3, count - 1) else {
+        return misuse();
+    };
+    range::pages(system, first, years)
+}
+
+fn help() -> u32
+    ensures { λ r. ⌜ Written r ⌝ }
+{
+    let text = b"almanac year SYSTEM FIRST [LAST]\n\
+        almanac --help | --version\n\
+        \n\
+        Prints the page of the year FIRST, or of each year from FIRST to LAST, by the\n\
+        calendar with the number SYSTEM: 1 is Guantian, 2 is Jiyuan. A year begins\n\
+        with month 11, late in the common year before it. The manual page almanac(1)\n\
+        tells the lines of a page and the exit status.\n";
+    exit::reply(text, b"almanac: standard output")
+}
+
+// Does what a lone argument asks.
+fn reply(wish: Wish, version: &[u8]) -> u32
+    ensures { λ r. ⌜ Ended r ⌝ }
+{
+    match wish {
+        Wish::Help => help(),
+        Wish::Version => exit::reply_version(b"almanac", version, b"almanac: standard output"),
+        Wish::Other => misuse(),
+    }
+}
+
+// Does what the arguments ask, and gives the exit status.
+#[no_mangle]
+pub extern "C" fn almanac_run(version: &[u8]) -> u32
+    ensures { λ r. ⌜ Ended r ⌝ }
+{
+    let count = os::arg_count();
+    let mut verb = io::buffer();
+    let n = os::arg(1, &mut verb);
+    if count == 2 {
+        return reply(options::read(&verb[..n]), version);
+    }
+    if check::same(&verb[..n], b"year") {
+        return year_pages(count);
+    }
+    misuse()
+}
