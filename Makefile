@@ -9,10 +9,11 @@ RUSTC = rustc
 
 library = build/libchiselbrow.a
 programs = build/chiselbrow build/almanac
-test_tools = build/independent build/store_check build/null_check build/incident build/feed
+test_tools = build/independent build/store_check build/null_check build/incident build/feed build/faults.so
 bench_tools = build/bench build/c_program
 tests = tests/cases.sh tests/every_day.sh tests/damaged.sh build/null_check build/incident tests/header.sh \
-        tests/host.sh tests/every_year.sh tests/program.sh tests/pipes.sh tests/install.sh tests/mixups.sh
+        tests/host.sh tests/every_year.sh tests/program.sh tests/pipes.sh tests/arguments.sh tests/descriptors.sh \
+        tests/faults.sh tests/install.sh tests/mixups.sh
 crates := crates.txt $(shell find crates -name must-fail -prune -o -type f -print)
 
 # Two runs of rt at a time would share target/.
@@ -82,6 +83,9 @@ build/store_check build/incident: build/%: tests/%.c include/chiselbrow.h $(libr
 
 build/feed: tests/feed.c | build
 	$(CC) $(CFLAGS) -o $@ $<
+
+build/faults.so: tests/faults.c | build
+	$(CC) $(CFLAGS) -fPIC -shared -o $@ $<
 
 build/bench: bench/bench.c bench/records.c bench/c_store.c $(wildcard bench/*.h) include/chiselbrow.h $(library)
 	$(CC) $(CFLAGS) -Iinclude -o $@ $(filter %.c,$^) $(library)

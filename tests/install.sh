@@ -16,8 +16,8 @@ read -ra flags <<< "$(pkg-config --cflags --libs chiselbrow)"
 "${CC:-gcc}" -std=c11 examples/store.c "${flags[@]}" -o "$scratch/store"
 came=$("$scratch/store" 09 00 04 00 01 68 5C 20 00 | head -n 1)
 [ "$came" = 'day 2120808' ] || fail "a host built with what is installed says: $came"
-came=$("$scratch/bin/chiselbrow" < examples/case-9.bin | tail -n 1)
-[ "$came" = 'refused 1' ] || fail "the installed program says: $came"
+came=$(head -c 10 examples/case-9.bin | "$scratch/bin/chiselbrow")
+[ "$came" = 'G 1094 5* 1 2120808 37' ] || fail "the installed program says: $came"
 [ -x "$scratch/bin/almanac" ] || fail "no almanac"
 for page in man1/chiselbrow.1 man1/almanac.1 man3/chiselbrow.3; do
     [ -s "$scratch/share/man/$page" ] || fail "no $page"
