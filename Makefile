@@ -13,7 +13,7 @@ test_tools = build/independent build/store_check build/null_check build/incident
 bench_tools = build/bench build/c_program
 tests = tests/cases.sh tests/every_day.sh tests/damaged.sh build/null_check build/incident tests/header.sh \
         tests/host.sh tests/every_year.sh tests/program.sh tests/pipes.sh tests/arguments.sh tests/descriptors.sh \
-        tests/faults.sh tests/install.sh tests/mixups.sh
+        tests/faults.sh tests/manual.sh tests/install.sh tests/mixups.sh
 crates := crates.txt $(shell find crates -name must-fail -prune -o -type f -print)
 
 # Two runs of rt at a time would share target/.

@@ -6,6 +6,7 @@ name=descriptors
 . tests/run.bash
 
 # A command line must end with this status, this output and this line on standard error, or nothing there.
+export scratch
 expect() {
     run timeout 20 bash -c "exec $1"
     told "$1" "$2" "$3" "$4"
@@ -13,27 +14,30 @@ expect() {
 
 # A pipe that nobody reads any more at 4, and one that does not block at 5.
 mkfifo "$scratch/unread" "$scratch/prompt"
-exec 3<> "$scratch/unread" 4> "$scratch/unread" 3>&- 5<> "$scratch/prompt"
+exec 3<> "$scratch/unread"
+exec 4> "$scratch/unread"
+exec 3>&- 5<> "$scratch/prompt"
 dd count=0 iflag=nonblock status=none <&5
 
-# Case 9: its four records and the stray byte after them.
+# The four records of case 9.
 head -c 38 examples/case-9.bin > "$scratch/records"
 build/independent lines < "$scratch/records" > "$scratch/lines"
-build/independent lines < examples/case-9.bin > "$scratch/stopped"
 none=/dev/null
-no_record='chiselbrow: standard input: no record at byte 38'
+
+# The line for an output that fails, by the command and the reason.
+output_fails() {
+    local program=${1%% *}
+    echo "${program#build/}: standard output: $2"
+}
 
 # Outputs that take nothing. Where nothing is written they do no harm.
 takes_nothing() {
-    local program=${1%% *} line
-    program=${program#build/}
-    line="$program: standard output:"
-    expect "$1 > /dev/full" 1 $none "$line No space left on device"
-    expect "$1 >&-" 1 $none "$line Bad file descriptor"
-    expect "env --default-signal=PIPE $1 >&4" 1 $none "$line Broken pipe"
-    expect "env --ignore-signal=PIPE $1 >&4" 1 $none "$line Broken pipe"
+    expect "$1 > /dev/full" 1 $none "$(output_fails "$1" 'No space left on device')"
+    expect "$1 >&-" 1 $none "$(output_fails "$1" 'Bad file descriptor')"
+    expect "env --default-signal=PIPE $1 >&4" 1 $none "$(output_fails "$1" 'Broken pipe')"
+    expect "env --ignore-signal=PIPE $1 >&4" 1 $none "$(output_fails "$1" 'Broken pipe')"
 }
-takes_nothing "build/chiselbrow < $scratch/records"
+takes_nothing 'build/chiselbrow < "$scratch/records"'
 takes_nothing 'build/chiselbrow < examples/case-9.bin'
 takes_nothing 'build/chiselbrow < /dev/zero'
 takes_nothing 'build/chiselbrow --help'
@@ -44,6 +48,19 @@ takes_nothing 'build/almanac --help'
 takes_nothing 'build/almanac --version'
 expect 'build/chiselbrow < /dev/null > /dev/full' 0 $none ''
 expect 'build/almanac year 1 1094 1092 > /dev/full' 0 $none ''
+
+# A pipe that is filled up and does not block has taken the beginning of what is right.
+filled_up() {
+    expect "$1 >&5" 1 $none "$(output_fails "$1" 'Resource temporarily unavailable')"
+    cat <&5 > "$scratch/taken" 2> /dev/null || true
+    [ -s "$scratch/taken" ] || fail "$1: nothing was taken"
+    cmp -n "$(stat -c %s "$scratch/taken")" "$scratch/taken" "$2" || fail "$1: something else was taken"
+}
+for _ in {1..5000}; do echo "$scratch/records"; done | xargs cat > "$scratch/many_records"
+for _ in {1..5000}; do echo "$scratch/lines"; done | xargs cat > "$scratch/many_lines"
+filled_up 'build/chiselbrow < "$scratch/many_records"' "$scratch/many_lines"
+build/independent almanac 2 1 100 > "$scratch/pages"
+filled_up 'build/almanac year 2 1 100' "$scratch/pages"
 
 # Inputs that give nothing, or nothing more. A record that has begun is not told as refused.
 expect 'build/chiselbrow < .' 1 $none 'chiselbrow: standard input: Is a directory'
@@ -57,14 +74,14 @@ build/independent almanac 1 1094 > "$scratch/page"
 expect 'build/almanac year 1 1094 <&-' 0 "$scratch/page" ''
 
 # A standard error that takes nothing changes neither the status nor the output.
+{ cat "$scratch/lines" && echo 'refused 1'; } > "$scratch/stopped"
 for error in '2> /dev/full' '2>&-' '2>&4'; do
     expect "build/chiselbrow < examples/case-9.bin $error" 1 "$scratch/stopped" ''
     expect "build/chiselbrow < . $error" 1 $none ''
-    expect "build/chiselbrow < $scratch/records > /dev/full $error" 1 $none ''
+    expect "build/chiselbrow < examples/case-9.bin > /dev/full $error" 1 $none ''
     expect "build/chiselbrow x $error" 2 $none ''
     expect "build/almanac year 1 1094 > /dev/full $error" 1 $none ''
     expect "build/almanac $error" 2 $none ''
 done
-expect 'build/chiselbrow < examples/case-9.bin' 1 "$scratch/stopped" "$no_record"
 
 echo "descriptors: what the system refuses is told"

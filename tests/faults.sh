@@ -1,6 +1,6 @@
 #!/usr/bin/env bash
-# Calls that fail, that are interrupted or that move fewer bytes than asked for, at each place of a run (tests/faults.c).
-# A failure is told by the status and by one line, and what was written before it is right as far as it goes. The others
+# Calls that fail, are interrupted or move fewer bytes than asked for, at each place of a run (tests/faults.c). A
+# failure is told by the status and by one line, and what was written before it is right as far as it goes. The others
 # change nothing.
 set -euo pipefail
 cd "$(dirname "$0")/.."
@@ -9,8 +9,8 @@ name=faults
 EINTR=4 EIO=5 ENOSPC=28
 runs=0
 
-# A program that goes round in a circle is ended.
-ulimit -t 20
+# A program that goes round in a circle is ended when its output or the list of its calls is 2 million bytes long.
+ulimit -f 2000
 
 # Runs the command on the input, with the faults that the environment tells. Of each call there is then the number of
 # bytes that it moved, or its error.
@@ -62,9 +62,10 @@ write_failed() {
     told "$1" 1 "$scratch/expected" "$program: standard output: No space left on device"
 }
 
-# The fault that the environment tells, at the first call, at the second and so on, until a run makes no such call.
+# The fault that the environment tells, at the first call, at the second and so on, until a run makes no such call. The
+# first at least, which moves many bytes without it, then gives something else.
 at_every() {
-    local -n made=${FAULT}s expected=plain_${FAULT}s
+    local -n made=${FAULT}s plainly=plain_${FAULT}s
     local -x FAULT_AT
     local what
     for ((FAULT_AT = 1; ; FAULT_AT++)); do
@@ -76,8 +77,9 @@ at_every() {
             *) told "$what" "$due_status" "$scratch/right" "$due_line" ;;
         esac
         [ "${#made[@]}" -ge "$FAULT_AT" ] || break
+        [[ $FAULT_AT -gt 1 || ${made[0]} != "${plainly[0]}" ]] || fail "$what: there was no fault"
     done
-    [ "$FAULT_AT" = $((${#expected[@]} + 1)) ] || fail "$what: there were ${#expected[@]} calls without it"
+    [ "$FAULT_AT" = $((${#plainly[@]} + 1)) ] || fail "$what: there were ${#plainly[@]} calls without it"
 }
 
 # Every sort of fault of a call that fails with this error.
