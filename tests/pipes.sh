@@ -3,24 +3,20 @@
 # when nobody reads on, and a longer stream takes no more memory. SEED=N repeats a run.
 set -euo pipefail
 cd "$(dirname "$0")/.."
-scratch=$(mktemp -d)
-trap 'rm -rf "$scratch"' EXIT
 seed=${SEED:-$(date +%s)}
-export LC_ALL=C
+name="pipes (seed $seed)"
+. tests/run.bash
 line='G 1094 5* 1 2120808 37'
-
-fail() {
-    echo "pipes: $* (seed $seed)" >&2
-    exit 1
-}
+no_record='chiselbrow: standard input: no record at byte'
 
 # Pieces: a stream of so many records, in pieces of 1 to so many bytes, with pauses of so many microseconds. The program
-# may stop before it has read all, and then the feeder fails.
+# may stop before it has read all, and then the feeder complains.
 pieces() {
     build/independent stream "$seed" "$1" 2> /dev/null > "$scratch/stream"
-    { build/feed "$seed" "$2" "$3" < "$scratch/stream" || true; } | build/chiselbrow > "$scratch/came"
     build/independent lines < "$scratch/stream" > "$scratch/expected"
-    cmp "$scratch/came" "$scratch/expected" || fail "other lines for $1 records in pieces of 1 to $2 bytes"
+    due "$scratch/stream"
+    run build/chiselbrow < <(build/feed "$seed" "$2" "$3" < "$scratch/stream" 2> /dev/null)
+    told "$1 records in pieces of 1 to $2 bytes" "$due_status" "$scratch/expected" "$due_line"
 }
 pieces 50 3 500
 pieces 300 40 500
@@ -32,7 +28,7 @@ pieces 200000 70000 0
 start() {
     rm -f "$scratch/records" "$scratch/lines"
     mkfifo "$scratch/records" "$scratch/lines"
-    build/chiselbrow < "$scratch/records" > "$scratch/lines" &
+    build/chiselbrow < "$scratch/records" > "$scratch/lines" 2> "$scratch/error" &
     program=$!
     exec 3> "$scratch/records" 4< "$scratch/lines"
 }
@@ -42,12 +38,13 @@ expect() {
     read -r -t 20 came <&4 || fail "no line came: $2"
     [ "$came" = "$1" ] || fail "another line came: $came: $2"
 }
+# No line comes any more, and the program ends with this status and this line on standard error, or nothing.
 expect_end() {
-    local came status=0
-    read -r -t 20 came <&4 || status=$?
-    [ "$status" = 1 ] || fail "it goes on: $1"
+    timeout 20 cat <&4 > "$scratch/out" || fail "it goes on: $1"
     exec 3>&- 4<&-
-    wait "$program" || true
+    status=0
+    wait "$program" || status=$?
+    told "$1" "$2" /dev/null "$3"
 }
 
 start
@@ -63,14 +60,14 @@ send '\x04\0\0\0\x09\0\x04\0\x01\x68\x5C\x20\0'
 expect 'refused 2' 'the first of two records'
 expect "$line" 'the second of two records'
 exec 3>&-
-expect_end 'the input has ended'
+expect_end 'the input has ended' 0 ''
 
 # What cannot be a record ends it, whether or not more would come.
 for bytes in '\0\0' '\x03\0' '\x41\0' '\0\x01'; do
     start
     send "$bytes"
     expect 'refused 1' "$bytes"
-    expect_end "$bytes"
+    expect_end "$bytes" 1 "$no_record 0"
 done
 
 # Case 9's four records again and again, without the stray byte: 400,000 of them.
@@ -78,23 +75,23 @@ head -c 38 examples/case-9.bin > "$scratch/one"
 for _ in {1..1000}; do cat "$scratch/one"; done > "$scratch/thousand"
 for _ in {1..100}; do cat "$scratch/thousand"; done > "$scratch/many"
 
-# Nobody reads on: the input never ends, so only the closed output can end it, be it by the signal or by the error.
+# From here on the program stands within a pipeline, whose parts may end as they like.
+set +o pipefail
+
+# Nobody reads on: the input never ends, so only the closed output can end it, be the signal of it taken or ignored.
 endless() { while cat "$scratch/many" 2> /dev/null; do :; done; }
 closed() {
-    set +o pipefail
-    endless | timeout 20 build/chiselbrow | head -n 1 > "$scratch/came"
-    [ "${PIPESTATUS[1]}" != 124 ] || fail "it goes on though nobody reads: $1"
-    [ "$(cat "$scratch/came")" = "$line" ] || fail "another first line: $1"
-    set -o pipefail
+    endless | timeout 20 env "--$1-signal=PIPE" build/chiselbrow 2> "$scratch/error" | head -n 1 > "$scratch/out"
+    status=${PIPESTATUS[1]}
+    told "nobody reads on, $1 signal" 1 <(echo "$line") 'chiselbrow: standard output: Broken pipe'
 }
-(closed 'signal taken')
-(trap '' PIPE && closed 'signal ignored')
+closed default
+closed ignore
 
-# Memory: a stream of 100 million bytes and more, with room for 64 million.
-for _ in {1..27}; do cat "$scratch/many"; done |
-    (ulimit -v 62500 && exec build/chiselbrow) | uniq -c > "$scratch/came"
-read -r count came < "$scratch/came"
-[ "$count $came" = "10800000 $line" ] || fail "other lines for a long stream: $count $came"
-[ "$(wc -l < "$scratch/came")" = 1 ] || fail "more than one kind of line for a long stream"
+# Memory: a stream of 100 million bytes and more, and then a stray byte, with room for 64 million.
+{ for _ in {1..27}; do cat "$scratch/many"; done && printf '\0'; } |
+    (ulimit -v 62500 && exec build/chiselbrow 2> "$scratch/error") | uniq -c | sed 's/^ *//' > "$scratch/out"
+status=${PIPESTATUS[1]}
+told 'a long stream' 1 <(printf '%s\n' "10800000 $line" '1 refused 1') "$no_record 102600000"
 
 echo "pipes: any pieces, prompt answers, a prompt end, little memory (seed $seed)"

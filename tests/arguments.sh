@@ -1,0 +1,93 @@
+#!/usr/bin/env bash
+# --help, --version and arguments that are neither: what is told of them, without a look at standard input.
+set -euo pipefail
+cd "$(dirname "$0")/.."
+name=arguments
+. tests/run.bash
+version=$(sed -n 's/^#define CHISELBROW_VERSION "\(.*\)".*/\1/p' include/chiselbrow.h)
+[ -n "$version" ] || fail "the header tells no version"
+
+# Nothing ever comes from 3.
+mkfifo "$scratch/silent"
+exec 3<> "$scratch/silent"
+
+# The calls of a program with arguments, which must not be reads.
+with() {
+    LD_PRELOAD=$PWD/build/faults.so run timeout 20 "build/$program" "$@" <&3
+    ! grep -q '^read' "$scratch/calls" || fail "$program $*: it reads"
+}
+
+# What a program tells of itself, the help also through an output that takes a byte at a time.
+about() {
+    program=$1 usage=$2
+    echo "$program $version" > "$scratch/version"
+    with --version
+    told "$program --version" 0 "$scratch/version" ''
+    with --help
+    cp "$scratch/out" "$scratch/help"
+    told "$program --help" 0 "$scratch/help" ''
+    grep -qF -- "${usage#usage: }" "$scratch/help" || fail "$program --help does not tell its arguments"
+    WRITE_MOST=1 INTERRUPTS=2 with --help
+    told "$program --help in pieces" 0 "$scratch/help" ''
+}
+
+# Arguments that are none of its own.
+wrong() {
+    with "$@"
+    told "$program$(printf ' <%s>' "$@")" 2 /dev/null "$usage"
+}
+
+# What goes on after an argument of its own, or is only like it.
+unlike() {
+    wrong --help --help
+    wrong --help --version
+    wrong --version x
+    wrong x --help
+    wrong --hel
+    wrong --help=
+    wrong --HELP
+    wrong ' --help'
+    wrong --versions
+    wrong -h
+    wrong -
+    wrong --
+    wrong ''
+    wrong '' ''
+}
+
+LD_PRELOAD=$PWD/build/faults.so run build/chiselbrow < /dev/null
+grep -qx 'read 0' "$scratch/calls" || fail "a program's reads are not seen"
+
+about chiselbrow 'usage: chiselbrow [--help | --version] < records'
+unlike
+wrong x
+wrong x y
+wrong examples/case-9.bin
+
+about almanac 'usage: almanac year SYSTEM FIRST [LAST]'
+unlike
+wrong
+wrong page 1 1092
+wrong Year 1 1092
+wrong '' 1 1092
+wrong year
+wrong year 1
+wrong year 1 ''
+wrong year '' 1092
+wrong year 1 1092 ''
+wrong year one 1092
+wrong year 1 MXCII
+wrong year 1 1092 x
+wrong year 1 -1092
+wrong year 1 +1092
+wrong year +1 1092
+wrong year 1 1092 -1
+wrong year 1 ' 1092'
+wrong year 1 '1092 '
+wrong year 1 10.92
+wrong year 0x1 1092
+wrong year 1 1092 1094 1096
+wrong year 1 1092 --help
+wrong year --help
+
+echo "arguments: told, answered or sent back with the usage, and nothing is read"

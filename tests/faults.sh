@@ -1,0 +1,146 @@
+#!/usr/bin/env bash
+# Calls that fail, are interrupted or move fewer bytes than asked for, at each place of a run (tests/faults.c). A
+# failure is told by the status and by one line, and what was written before it is right as far as it goes. The others
+# change nothing.
+set -euo pipefail
+cd "$(dirname "$0")/.."
+name=faults
+. tests/run.bash
+EINTR=4 EIO=5 ENOSPC=28
+runs=0
+
+# A program that goes round in a circle is ended when its output or the list of its calls is 2 million bytes long.
+ulimit -f 2000
+
+# Runs the command on the input, with the faults that the environment tells. Of each call there is then the number of
+# bytes that it moved, or its error.
+meddled() {
+    local call moved
+    LD_PRELOAD=$PWD/build/faults.so run "${command[@]}" < "$input"
+    runs=$((runs + 1))
+    reads=() writes=()
+    while read -r call moved; do
+        case $call in
+            read) reads+=("$moved") ;;
+            write) writes+=("$moved") ;;
+        esac
+    done < "$scratch/calls"
+}
+
+# The run without a fault must tell what is due, and make so many calls of each name. The others are held to it.
+plain() {
+    meddled
+    told "${command[*]}" "$due_status" "$scratch/right" "$due_line"
+    [[ ${#reads[@]} -ge $1 && ${#writes[@]} -ge $2 ]] || fail "${command[*]}: too few calls were seen"
+    plain_reads=("${reads[@]}") plain_writes=("${writes[@]}")
+}
+
+# After a failed read: the lines of the records that were whole before it.
+read_failed() {
+    local bytes=0 records=0 moved end
+    for moved in "${reads[@]}"; do
+        [ "$moved" != "-$EIO" ] || break
+        bytes=$((bytes + moved))
+    done
+    for end in "${ends[@]:1}"; do
+        [ "$end" -le "$bytes" ] || break
+        records=$((records + 1))
+    done
+    head -n "$records" "$scratch/right" > "$scratch/expected"
+    told "$1" 1 "$scratch/expected" "$program: standard input: Input/output error"
+}
+
+# After a failed write: what the writes before it took, the cut one among them.
+write_failed() {
+    local bytes=0 i
+    for ((i = 0; i < FAULT_AT - 1; i++)); do bytes=$((bytes + plain_writes[i])); done
+    case ${FAULT_CUT:-} in
+        one) bytes=$((bytes + 1)) ;;
+        half) bytes=$((bytes + (plain_writes[i] + 1) / 2)) ;;
+    esac
+    head -c "$bytes" "$scratch/right" > "$scratch/expected"
+    told "$1" 1 "$scratch/expected" "$program: standard output: No space left on device"
+}
+
+# The fault that the environment tells, at the first call, at the second and so on, until a run makes no such call. The
+# first at least, which moves many bytes without it, then gives something else.
+at_every() {
+    local -n made=${FAULT}s plainly=plain_${FAULT}s
+    local -x FAULT_AT
+    local what
+    for ((FAULT_AT = 1; ; FAULT_AT++)); do
+        meddled
+        what="${command[*]}: $FAULT $FAULT_AT${FAULT_CUT:+ cut to $FAULT_CUT}${FAULT_ERROR:+, error $FAULT_ERROR}"
+        case "$FAULT: ${made[*]} " in
+            read:*" -$EIO "*) read_failed "$what" ;;
+            write:*" -$ENOSPC "*) write_failed "$what" ;;
+            *) told "$what" "$due_status" "$scratch/right" "$due_line" ;;
+        esac
+        [ "${#made[@]}" -ge "$FAULT_AT" ] || break
+        [[ $FAULT_AT -gt 1 || ${made[0]} != "${plainly[0]}" ]] || fail "$what: there was no fault"
+    done
+    [ "$FAULT_AT" = $((${#plainly[@]} + 1)) ] || fail "$what: there were ${#plainly[@]} calls without it"
+}
+
+# Every sort of fault of a call that fails with this error.
+every_fault() {
+    local -x FAULT=$1
+    local error=$2 cut
+    FAULT_ERROR=$error at_every
+    FAULT_ERROR=$EINTR at_every
+    for cut in one half; do
+        FAULT_CUT=$cut at_every
+        FAULT_CUT=$cut FAULT_ERROR=$error at_every
+    done
+}
+
+# Chiselbrow's input and what is due for it: the records, and bytes after them that are no record, or none.
+after_records() {
+    local rest=$1
+    { cat "$scratch/records" && printf '%b' "$rest"; } > "$input"
+    { cat "$scratch/lines" && echo -n "${rest:+refused 1$'\n'}"; } > "$scratch/right"
+    mapfile -t ends < <(record_ends "$input")
+    due "$input"
+}
+
+program=chiselbrow command=(build/chiselbrow) input=$scratch/input
+build/independent stream 4 8 2> /dev/null > "$scratch/stream"
+head -c "$(record_ends "$scratch/stream" | tail -n 1)" "$scratch/stream" > "$scratch/records"
+build/independent lines < "$scratch/records" > "$scratch/lines"
+
+# Few records: none left over, one byte, and bytes that cannot begin a record.
+for rest in '' '\x09' '\x03\0\x04\0\x01\x68\x5C\x20\0'; do
+    after_records "$rest"
+    READ_MOST=1 WRITE_MOST=1 INTERRUPTS=3 plain 100 100
+    export READ_MOST=10
+    plain 10 8
+    every_fault read "$EIO"
+    every_fault write "$ENOSPC"
+    unset READ_MOST
+done
+
+# Many records, and calls that move as many bytes as the program asks for.
+for bytes in records lines; do
+    for _ in {1..1000}; do echo "$scratch/$bytes"; done | xargs cat > "$scratch/many"
+    mv "$scratch/many" "$scratch/$bytes"
+done
+after_records '\x09'
+plain 3 2
+every_fault read "$EIO"
+every_fault write "$ENOSPC"
+
+program=almanac input=/dev/null due_status=0 due_line=
+command=(build/almanac year 2 2999 3001)
+build/independent almanac "${command[@]:2}" > "$scratch/right"
+WRITE_MOST=1 INTERRUPTS=3 plain 0 1000
+export WRITE_MOST=300
+plain 0 12
+every_fault write "$ENOSPC"
+unset WRITE_MOST
+
+command=(build/almanac year 1 1 200)
+build/independent almanac "${command[@]:2}" > "$scratch/right"
+plain 0 2
+every_fault write "$ENOSPC"
+
+echo "faults: $runs runs go on or stop as they must"
