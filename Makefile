@@ -44,7 +44,7 @@ ephem_python = $(shell for python in python3 /usr/bin/python3; do \
 sky:
 	@test -n "$(ephem_python)" || { echo 'make sky needs python3 with ephem (Debian: python3-ephem)' >&2; exit 1; }
 	@$(MAKE) build/almanac < /dev/null >&2
-	@$(ephem_python) tests/sky.py build/almanac
+	@$(ephem_python) -B tests/sky build/almanac
 
 # The program, from standard input to standard output; what building it says goes to standard error.
 run:
