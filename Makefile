@@ -31,7 +31,7 @@ crates := crates.txt $(shell find crates -name must-fail -prune -o -type f -prin
 # So that nothing is printed after the gate's last line.
 MAKEFLAGS += --no-print-directory
 
-.PHONY: all test-tools test bench run install clean
+.PHONY: all test-tools test bench sky run install clean
 
 # The library as an archive and shared, the programs and the example host.
 all: $(library) $(shared) $(programs) build/store
@@ -47,6 +47,15 @@ test: all test-tools
 # The storing step and the program, beside C written by hand.
 bench: all $(bench_tools)
 	@bench/run.sh
+
+# The almanac beside true new moons and solstices. No part of `test`: it needs a Python with ephem, the first in PATH or
+# the distribution's own.
+ephem_python = $(shell for python in python3 /usr/bin/python3; do \
+                       $$python -c 'import ephem' 2> /dev/null && echo $$python && break; done)
+sky:
+	@test -n "$(ephem_python)" || { echo 'make sky needs python3 with ephem (Debian: python3-ephem)' >&2; exit 1; }
+	@$(MAKE) --silent build/almanac < /dev/null >&2
+	@$(ephem_python) -B tests/sky build/almanac
 
 # The program, from standard input to standard output; what building it says goes to standard error. That the input
 # stopped being records is the input's affair, and no error of make's.
