@@ -111,7 +111,7 @@ module _ (system year month leap name : ℕ) (m : Month) (e : m ≡ monthOf syst
   name-month-refused h = refused-by (m .refusal) false (unlessWrong (nameWrong m name) on-name) h ∙ name-in-month
 
   pub no-name : m .refusal ≡ 0 → 59 < name → refuse DAY ≡ judgeName system year month leap name
-  no-name z h = wrong-place (m .refusal) (nameWrong m name) on-name z (ap (λ b. b || leb (m .length) days) (lt-ltb 59 name h)) ∙ name-in-month
+  no-name z h = wrong-place (m .refusal) (nameWrong m name) on-name z (simp (lt-ltb 59 name h)) ∙ name-in-month
 
   pub name-past : m .refusal ≡ 0 → name ≤ 59 → m .length ≤ days → refuse DAY ≡ judgeName system year month leap name
   name-past z h l =

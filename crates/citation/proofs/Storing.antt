@@ -1,7 +1,7 @@
 -- The three ways in which a storing ends.
 use Prim.Native.Nat.{ℕ, _*_, _^_, _≤_, _<_}
 use mathlib.Core.Path.{_≡_, ap, sym, _∙_}
-use mathlib.Core.Bool.{cond}
+use mathlib.Core.Bool.{Bool, false, cond}
 use mathlib.Core.List.{List, _++_}
 use native.Mathlib.Omega.{arith}
 use lib.Dec.{eqb, ltb}
@@ -26,6 +26,9 @@ module _ (s : List ℕ) (room : ℕ) (j : Judgement) (e : j ≡ judgeOf s) where
   pub refusal-none : j .refusal ≡ 0 → 10 ≤ room → refusalOf s room ≡ 0
   refusal-none h l = refusal-is ∙ simp (eq-eqb (j .refusal) 0 h, le-ltb room 10 l)
 
+second-of : {A : Type 0} (b : Bool) (first second : A) → b ≡ false → second ≡ cond b first second
+second-of b first second e = ap (λ x. cond x first second) (sym e)
+
 -- Refused, the answer is the number times 2^32 and no byte changes.
 module _ (s : List ℕ) (number : ℕ) (some : number ≡ 0 → ⊥) where
   pub answer-refused : (room : ℕ) → refusalOf s room ≡ number → number * 2 ^ 32 ≡ answerOf s room
@@ -36,7 +39,7 @@ module _ (s : List ℕ) (number : ℕ) (some : number ≡ 0 → ⊥) where
   unfolding storedInto
   output-refused before r =
       let refused = ne-eqb (refusalOf s (length before)) 0 (λ z. some (sym r ∙ z)) in
-      ap (λ accepted. cond accepted ((judgeOf s) .stored ++ drop 10 before) before) (sym refused)
+      second-of _ _ before refused
 
 -- Accepted, the answer is the day, and the record stands in the first ten bytes.
 module _ (s : List ℕ) (j : Judgement) (e : j ≡ judgeOf s) where
