@@ -87,7 +87,7 @@ module _ (s : List ℕ) where
       (w .1))
 
   -- What is left to judge where system, year and month are right: the place.
-  place-rows : {number : ℕ} → InScope (systemOf s) (yearField s) → (WrongMonth s → ⊥)
+  pub place-rows : {number : ℕ} → InScope (systemOf s) (yearField s) → (WrongMonth s → ⊥)
       → ((number ≡ DAY) × NotPlaced s) ⊎ ((NotPlaced s → ⊥) × (number ≡ 0))
       → FirstOf (contentRows s) number
   place-rows i w p =

@@ -1,7 +1,7 @@
 -- The cases of each kind's judgement: refused by the reckoning, at a wrong place, or accepted.
 use Prim.Native.Nat.{ℕ, _+_, _-_, _%_, _≤_, _<_}
-use mathlib.Core.Path.{_≡_, ap, sym, subst, _∙_}
-use mathlib.Core.Bool.{Bool, true, false, true≢false, _||_}
+use mathlib.Core.Path.{_≡_, ap, ap₂, sym, subst, _∙_}
+use mathlib.Core.Bool.{Bool, true, false, true≢false, cond, _||_}
 use mathlib.Core.List.{List}
 use native.Mathlib.Decide.{ℕ-discrete}
 use native.Mathlib.Omega.{arith}
@@ -24,7 +24,7 @@ use Rattle.reckoning.specs.declared.data.Date.{Date}
 use Rattle.reckoning.specs.Requests.{daysOf, monthOf, dateOf}
 use Rattle.citation.specs.declared.judge.Judgement.{Judgement}
 use Rattle.citation.specs.Store.{refuse, accept, unlessRefused, unlessWrong, judgeDate, judgeRegisterDay, judgeInYear}
-use Rattle.citation.specs.Store.{judgeOrdinal, judgeInMonth, judgeDay, judgeNameInMonth, judgeName, daysToName}
+use Rattle.citation.specs.Store.{judgeOrdinal, judgeInMonth, judgeDay, judgeNameInMonth, judgeName, daysToName, nameWrong}
 use Rattle.citation.specs.Store.{lengthRight, judgeKind, judgeOf}
 
 pub by-equal : {P : Type 0} (m n : ℕ) → (m ≡ n → P) → ((m ≡ n → ⊥) → P) → P
@@ -36,7 +36,7 @@ module _ (refusal : ℕ) (wrong : Bool) (j : Judgement) where
   refused-by h = simp (ne-eqb refusal 0 h)
 
   accepted-by : refusal ≡ 0 → j ≡ unlessRefused refusal j
-  accepted-by h = simp (eq-eqb refusal 0 h)
+  accepted-by h = ap (λ accepted. cond accepted j (refuse refusal)) (sym (eq-eqb refusal 0 h))
 
   wrong-place : refusal ≡ 0 → wrong ≡ true → refuse DAY ≡ unlessRefused refusal (unlessWrong wrong j)
   wrong-place h e = simp (eq-eqb refusal 0 h, e)
@@ -100,9 +100,6 @@ module _ (system year month leap name : ℕ) (m : Month) (e : m ≡ monthOf syst
   abbrev days : ℕ
   days = daysToName (m .head .0) name
 
-  abbrev name-wrong : Bool
-  name-wrong = ltb 59 name || leb (m .length) days
-
   abbrev on-name : Judgement
   on-name = accept (m .head .0 + days) system year month leap (days + 1)
 
@@ -111,18 +108,18 @@ module _ (system year month leap name : ℕ) (m : Month) (e : m ≡ monthOf syst
   name-in-month = ap (λ x. judgeNameInMonth x system year month leap name) e
 
   pub name-month-refused : (m .refusal ≡ 0 → ⊥) → refuse (m .refusal) ≡ judgeName system year month leap name
-  name-month-refused h = refused-by (m .refusal) false (unlessWrong name-wrong on-name) h ∙ name-in-month
+  name-month-refused h = refused-by (m .refusal) false (unlessWrong (nameWrong m name) on-name) h ∙ name-in-month
 
   pub no-name : m .refusal ≡ 0 → 59 < name → refuse DAY ≡ judgeName system year month leap name
-  no-name z h = wrong-place (m .refusal) name-wrong on-name z (simp (lt-ltb 59 name h)) ∙ name-in-month
+  no-name z h = wrong-place (m .refusal) (nameWrong m name) on-name z (simp (lt-ltb 59 name h)) ∙ name-in-month
 
   pub name-past : m .refusal ≡ 0 → name ≤ 59 → m .length ≤ days → refuse DAY ≡ judgeName system year month leap name
   name-past z h l =
-      wrong-place (m .refusal) name-wrong on-name z (simp (le-ltb 59 name h, le-leb (m .length) days l)) ∙ name-in-month
+      wrong-place (m .refusal) (nameWrong m name) on-name z (ap₂ _||_ (le-ltb 59 name h) (le-leb (m .length) days l)) ∙ name-in-month
 
   pub name-right : m .refusal ≡ 0 → name ≤ 59 → days < m .length → on-name ≡ judgeName system year month leap name
   name-right z h l =
-      right-place (m .refusal) name-wrong on-name z (simp (le-ltb 59 name h, lt-leb (m .length) days l)) ∙ name-in-month
+      right-place (m .refusal) (nameWrong m name) on-name z (ap₂ _||_ (le-ltb 59 name h) (lt-leb (m .length) days l)) ∙ name-in-month
 
   -- the same, with the name of the month's first day at hand
   pub name-right-from : (first : ℕ) → first ≡ nameOf (m .head .0) → m .refusal ≡ 0 → name ≤ 59

@@ -11,11 +11,12 @@ use Rattle.calendar.specs.Year.{MonthNumbered}
 use Rattle.calendar.proofs.EachSystem.{consistent}
 use Rattle.calendar.proofs.Reckoned.{reckoned}
 use Rattle.calendar.proofs.Laws.{number-inside, mark-inside}
-use Rattle.reckoning.specs.Scope.{YearInScope}
+use Rattle.reckoning.specs.Scope.{InScope}
 use Rattle.citation.specs.Record.{Bytes, yearField, recordOf}
 use Rattle.citation.specs.DayCited.{elapsedIn, CitedMonth, NamesDay, OnDate}
-use Rattle.citation.specs.CitationRefusals.{TooShort, WrongKind, WrongLength, WrongSystem, WrongYear, WrongMonth}
+use Rattle.citation.specs.CitationRefusals.{TooShort, WrongKind, WrongLength, WrongMonth}
 use Rattle.citation.specs.CitationRefusals.{Placed, NotPlaced, Accepted}
+use Rattle.citation.proofs.JudgedByKind.{place-rows}
 
 -- Bytes, one by one.
 abbrev EachByte : List ℕ → Type 0
@@ -53,11 +54,8 @@ module _ (system r year month leap day : ℕ) (d : OnDate system r year month le
   length-right : WrongLength rec → ⊥
   length-right w = w (refl, refl)
 
-  system-right : WrongSystem rec → ⊥
-  system-right w = w (d .in-scope .system-inside)
-
-  year-right : WrongYear rec → ⊥
-  year-right w = w .1 (subst YearInScope (sym year-read) (d .in-scope .year-inside))
+  in-scope : InScope system (yearField rec)
+  in-scope = subst (InScope system) (sym year-read) (d .in-scope)
 
   month-right : WrongMonth rec → ⊥
   month-right w =
@@ -75,10 +73,7 @@ module _ (system r year month leap day : ℕ) (d : OnDate system r year month le
 
   pub record-accepted : Accepted rec
   record-accepted =
-      inr (
-        long-enough,
-        inr (kind-right, inr (length-right, inr (system-right, inr (year-right, inr (month-right, inr (place-right, refl)))))),
-      )
+      inr (long-enough, inr (kind-right, inr (length-right, place-rows rec in-scope month-right (inr (place-right, refl)))))
 
   pub record-names : NamesDay rec r
   record-names = NamesDay.by-day refl (d .k) month-read (d .day-is)

@@ -1,8 +1,10 @@
 -- The three ways in which a storing ends.
 use Prim.Native.Nat.{ℕ, _*_, _^_, _≤_, _<_}
-use mathlib.Core.Path.{_≡_, ap}
+use mathlib.Core.Path.{_≡_, ap, sym, _∙_}
+use mathlib.Core.Bool.{Bool, false, cond}
 use mathlib.Core.List.{List, _++_}
 use native.Mathlib.Omega.{arith}
+use lib.Dec.{eqb, ltb}
 use lib.ListN.{length, drop}
 use borrow.Author.Tests.{eq-eqb, ne-eqb, lt-ltb, le-ltb}
 use Rattle.reckoning.specs.RefusalNumbers.{OUTPUT}
@@ -11,20 +13,21 @@ use Rattle.citation.specs.Store.{judgeOf, refusalOf, answerOf, storedInt
 
 -- The refusal number.
 module _ (s : List ℕ) (room : ℕ) (j : Judgement) (e : j ≡ judgeOf s) where
-  refusal-is : j .refusal ≡ (judgeOf s) .refusal
-  refusal-is = ap (λ x. x .refusal) e
+  refusal-is : refusalOf s room ≡ cond (eqb (j .refusal) 0) (cond (ltb room 10) OUTPUT 0) (j .refusal)
+  unfolding refusalOf
+  refusal-is = ap (λ x. cond (eqb (x .refusal) 0) (cond (ltb room 10) OUTPUT 0) (x .refusal)) (sym e)
 
   pub refusal-kept : (j .refusal ≡ 0 → ⊥) → refusalOf s room ≡ j .refusal
-  unfolding refusalOf
-  refusal-kept h = rw (← refusal-is) (simp (ne-eqb (j .refusal) 0 h))
+  refusal-kept h = refusal-is ∙ simp (ne-eqb (j .refusal) 0 h)
 
   pub refusal-output : j .refusal ≡ 0 → room < 10 → refusalOf s room ≡ OUTPUT
-  unfolding refusalOf
-  refusal-output h l = rw (← refusal-is) (simp (eq-eqb (j .refusal) 0 h, lt-ltb room 10 l))
+  refusal-output h l = refusal-is ∙ simp (eq-eqb (j .refusal) 0 h, lt-ltb room 10 l)
 
   pub refusal-none : j .refusal ≡ 0 → 10 ≤ room → refusalOf s room ≡ 0
-  unfolding refusalOf
-  refusal-none h l = rw (← refusal-is) (simp (eq-eqb (j .refusal) 0 h, le-ltb room 10 l))
+  refusal-none h l = refusal-is ∙ simp (eq-eqb (j .refusal) 0 h, le-ltb room 10 l)
+
+second-of : {A : Type 0} (b : Bool) (first second : A) → b ≡ false → second ≡ cond b first second
+second-of b first second e = ap (λ x. cond x first second) (sym e)
 
 -- Refused, the answer is the number times 2^32 and no byte changes.
 module _ (s : List ℕ) (number : ℕ) (some : number ≡ 0 → ⊥) where
@@ -34,7 +37,9 @@ module _ (s : List ℕ) (number : ℕ) (some : number ≡ 0 → ⊥) where
 
   pub output-refused : (before : List ℕ) → refusalOf s (length before) ≡ number → before ≡ storedInto s before
   unfolding storedInto
-  output-refused before r = rw r (simp (ne-eqb number 0 some))
+  output-refused before r =
+      let refused = ne-eqb (refusalOf s (length before)) 0 (λ z. some (sym r ∙ z)) in
+      second-of _ _ before refused
 
 -- Accepted, the answer is the day, and the record stands in the first ten bytes.
 module _ (s : List ℕ) (j : Judgement) (e : j ≡ judgeOf s) where

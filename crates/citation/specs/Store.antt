@@ -59,11 +59,15 @@ judgeDay system year month leap day = judgeInMonth (monthOf system year month le
 abbrev pub daysToName : ℕ → ℕ → ℕ
 daysToName head name = (name + 60 - nameOf head) % 60
 
+-- There is no such name, or the next day that bears it is past the month.
+abbrev pub nameWrong : Month → ℕ → Bool
+nameWrong m name = ltb 59 name || leb (m .length) (daysToName (m .head .0) name)
+
 -- Kind 2: the day of the month with the name.
 abbrev pub judgeNameInMonth : Month → ℕ → ℕ → ℕ → ℕ → ℕ → Judgement
 judgeNameInMonth m system year month leap name =
     unlessRefused (m .refusal)
-    (unlessWrong (ltb 59 name || leb (m .length) (daysToName (m .head .0) name))
+    (unlessWrong (nameWrong m name)
     (accept (m .head .0 + daysToName (m .head .0) name) system year month leap (daysToName (m .head .0) name + 1)))
 
 unfoldable pub judgeName : ℕ → ℕ → ℕ → ℕ → ℕ → Judgement

@@ -58,13 +58,13 @@ picks-guantian system e = simp (eq-eqb system 1 e)
 pub picks-jiyuan : (system : ℕ) → (system ≡ 1 → ⊥) → constantsOf system ≡ jiyuan
 picks-jiyuan system h = simp (ne-eqb system 1 h)
 
-pub reach-here : (system year : ℕ) (c : Constants) → constantsOf system ≡ c → yearRefusal system year ≡ 0
+pub in-register-here : (system year : ℕ) (c : Constants) → constantsOf system ≡ c → yearRefusal system year ≡ 0
     → YearInRegister c (yearsElapsed c year)
-reach-here system year c e z =
+in-register-here system year c e z =
     subst (λ k. YearInRegister k (yearsElapsed k year)) e (year-in-register system year ((accepted system year z) .year-inside))
 
 -- What is asked in scope lies within the register.
-pub within-reach : (a : Asked) (refusal system year : ℕ) → a ≡ askedOf refusal system year → InScope system year
+pub asked-in-register : (a : Asked) (refusal system year : ℕ) → a ≡ askedOf refusal system year → InScope system year
     → YearInRegister (a .c) (a .n)
-within-reach a refusal system year e s =
+asked-in-register a refusal system year e s =
     subst (λ x. YearInRegister (x .c) (x .n)) (sym e) (year-in-register system year (s .year-inside))

@@ -67,7 +67,7 @@ module _ (system year : ℕ) (s : InScope system year) where
       (record {
         accepted = refl;
         span = span c (consistent system) n;
-        size = filled-length (nameAt head) noNames long;
+        size = filled-length _ _ _;
         name = λ i h.
             let same : head + i ≡ registerDay c (headOfYear c n + i) = omega arith in
             filled-below (nameAt head) noNames 0 long i (omega arith) most

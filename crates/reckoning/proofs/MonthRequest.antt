@@ -53,16 +53,16 @@ module _ (c : Constants) (n : ℕ) (r : YearInRegister c n) where
   abbrev K : Calendar
   K = reckoned c (r .constants-fit .consistent)
 
-  pub ordinary-registered : (number k : ℕ) → k ≡ monthOfQi c (qiOfNumber n number)
+  pub ordinary-in-register : (number k : ℕ) → k ≡ monthOfQi c (qiOfNumber n number)
       → ConstantsFit c × (k + 1 < 2 ^ 32) × InRegister c (monthHead c k)
-  ordinary-registered number k e =
+  ordinary-in-register number k e =
       let w = within-of-qi K n ((number + 1) % 12) (omega arith) in
       (r .constants-fit, omega (arith, r .months), r .head k (omega arith) (omega arith))
 
-  pub leap-registered : (number k next : ℕ) → k ≡ monthOfQi c (qiOfNumber n number) → next ≡ monthOfQi c (qiOfNumber n number + 1)
+  pub leap-in-register : (number k next : ℕ) → k ≡ monthOfQi c (qiOfNumber n number) → next ≡ monthOfQi c (qiOfNumber n number + 1)
       → k + 1 < next
       → ConstantsFit c × (k + 1 + 1 < 2 ^ 32) × InRegister c (monthHead c (k + 1))
-  leap-registered number k next e f l =
+  leap-in-register number k next e f l =
       let w = within-of-qi K n ((number + 1) % 12) (omega arith) in
       let b : monthOfQi c (qiOfNumber n number + 1) ≤ firstMonth c (n + 1) = monotone (K .monthOfQi) (K .qi-rises) (omega arith) in
       (r .constants-fit, omega (arith, r .months), r .head (k + 1) (omega arith) (omega arith))

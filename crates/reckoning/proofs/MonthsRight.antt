@@ -5,7 +5,7 @@ use mathlib.Core.Logic.{inl, inr, ⊎-elim}
 use native.Mathlib.Omega.{arith}
 use Rattle.calendar.specs.declared.data.Constants.{Constants}
 use Rattle.calendar.specs.ExactlyOne.{ExactlyOne}
-use Rattle.calendar.specs.Systems.{constantsOf, yearsElapsed}
+use Rattle.calendar.specs.Systems.{constantsOf, yearsElapsed, registerDay}
 use Rattle.calendar.specs.Month.{monthHead, InMonth, Lacks, Bears, Marked}
 use Rattle.calendar.specs.Year.{InYear, DayOfYear}
 use Rattle.calendar.specs.Consistent.{Consistent}
@@ -20,7 +20,7 @@ use Rattle.calendar.proofs.Laws.{month-days, year-months, months-cover, twelve-
 use Rattle.reckoning.specs.declared.data.Year.{Year}
 use Rattle.reckoning.specs.Scope.{InScope}
 use Rattle.reckoning.specs.Asked.{askedOf}
-use Rattle.reckoning.specs.WordBounds.{YearInRegister}
+use Rattle.reckoning.specs.WordBounds.{InRegister, YearInRegister}
 use Rattle.reckoning.specs.ComputedRefusals.{yearRefusal}
 use Rattle.reckoning.specs.Requests.{asRegisterDay, headAt, numberAt, leapAt, noHeads, noMarks, monthsFrom, yearIn, noYear, yearOf}
 use Rattle.reckoning.specs.YearValue.{headIn, ListsMonths, Tiled}
@@ -29,6 +29,9 @@ use Rattle.reckoning.proofs.RefusalCases.{in-scope}
 use Rattle.reckoning.proofs.ScopeInRegister.{year-in-register}
 use Rattle.reckoning.proofs.AnswerUnless.{answered}
 use Rattle.reckoning.proofs.RegisterLaws.{months-in-register}
+
+register-back : (c : Constants) (d : ℕ) → InRegister c d → registerDay c d + c .anchor ≡ d
+register-back c d h = omega arith
 
 -- Year n within the register.
 module _ (c : Constants) (n : ℕ) (r : YearInRegister c n) where
@@ -41,7 +44,7 @@ module _ (c : Constants) (n : ℕ) (r : YearInRegister c n) where
       let l = months-in-register c n r in
       let small = l .count-most in
       let e = filled-below (headAt c f) noHeads (asRegisterDay 0) (m + 1) i (omega arith) (omega arith) in
-      omega (arith, ap (λ d. d .0) e, l .head i h)
+      ap (λ d. d .0 + c .anchor) e ∙ register-back c (monthHead c (f + i)) (l .head i h)
 
   pub holds-year : ListsMonths c n (yearIn c n)
   unfolding monthsFrom

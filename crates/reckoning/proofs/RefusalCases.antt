@@ -69,6 +69,20 @@ by-scope system year no-such-system no-such-year scope =
     (λ f outside-years. no-such-year system-inside outside-years (simp (e, f)))
     (λ f year-inside. scope (record { system-inside = system-inside; year-inside = year-inside })))
 
+-- What a request is refused, from the tests passed before.
+module _ (system year : ℕ) where
+  pub refused-system : outside 1 2 system ≡ true → SYSTEM ≡ yearRefusal system year
+  unfolding yearRefusal
+  refused-system e = simp e
+
+  pub refused-year : outside 1 2 system ≡ false → outside 1 3000 year ≡ true → YEAR ≡ yearRefusal system year
+  unfolding yearRefusal
+  refused-year e f = simp (e, f)
+
+  pub not-refused : outside 1 2 system ≡ false → outside 1 3000 year ≡ false → _≡_ {A = ℕ} 0 (yearRefusal system year)
+  unfolding yearRefusal
+  not-refused e f = simp (e, f)
+
 -- The rule for a qi number is looked at only where system and year are in scope.
 pub qi-unseen : (system year i : ℕ) → (yearRefusal system year ≡ 0 → ⊥) → yearRefusal system year ≡ qiRefusal system year i
 unfolding yearRefusal qiRefusal

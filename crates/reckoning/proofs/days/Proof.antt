@@ -2,19 +2,29 @@ use mathlib.Core.Path.{_≡_, sym, _∙_}
 use Rattle.calendar.specs.Systems.{constantsOf}
 use Rattle.reckoning.specs.ComputedRefusals.{yearRefusal}
 use Rattle.reckoning.specs.Requests.{daysIn, noDays, daysOf}
-use Rattle.reckoning.proofs.AnswerUnless.{refused-here, answered-here, picks-guantian, picks-jiyuan, reach-here}
+use Rattle.reckoning.proofs.AnswerUnless.{refused-here, answered-here, picks-guantian, picks-jiyuan, in-register-here}
 use borrow.Author.Needs.{needs}
 use Rattle.reckoning.proofs.days.Statement.{statement}
 use Rattle.reckoning.proofs.days.Tie as tie
 
+-- The places that the answers go back to, each from the one after it.
+abbrev request : tie.Else1 → tie.Start
+request c = c .before .before
+
+abbrev first : tie.After-guantian → tie.Else1
+first c = c .before .before
+
+abbrev second : tie.After-jiyuan → tie.Else1
+second c = c .before .before
+
 -- The request is not refused, and the constants are those of its system.
-accepted : (c : tie.Else1) → yearRefusal (c .before .before .args .system) (c .before .before .args .year) ≡ 0
+accepted : (c : tie.Else1) → yearRefusal (request c .args .system) (request c .args .year) ≡ 0
 accepted c = sym (c .before .of-year .ensures) ∙ c .if1 .left
 
-guantian-picked : (c : tie.After-guantian) → constantsOf (c .before .before .before .before .args .system) ≡ c .guantian .result
+guantian-picked : (c : tie.After-guantian) → constantsOf (request (first c) .args .system) ≡ c .guantian .result
 guantian-picked c = picks-guantian _ (c .before .if2 .taken) ∙ sym (c .guantian .ensures)
 
-jiyuan-picked : (c : tie.After-jiyuan) → constantsOf (c .before .before .before .before .args .system) ≡ c .jiyuan .result
+jiyuan-picked : (c : tie.After-jiyuan) → constantsOf (request (second c) .args .system) ≡ c .jiyuan .result
 jiyuan-picked c = picks-jiyuan _ (c .before .if2 .left) ∙ sym (c .jiyuan .ensures)
 
 of-year-requires : tie.Need-of-year-requires
@@ -29,34 +39,32 @@ guantian-requires c κs = search needs
 
 of-common-year-requires : tie.Need-of-common-year-requires
 of-common-year-requires c κs =
-    let request = c .before .before in
-    let args = request .before .before .args in
-    reach-here (args .system) (args .year) _ (guantian-picked c) (accepted request)
+    let args = request (first c) .args in
+    in-register-here (args .system) (args .year) _ (guantian-picked c) (accepted (first c))
 
 returns-2 : tie.Need-returns-2
 unfolding daysOf
 returns-2 c =
-    let request = c .before .before .before in
-    let args = request .before .before .args in
+    let there = first (c .before) in
+    let args = request there .args in
     let answered = answered-here daysIn noDays (args .system) (args .year) in
-    c .of-common-year .ensures ∙ answered _ (guantian-picked (c .before)) (accepted request)
+    c .of-common-year .ensures ∙ answered _ (guantian-picked (c .before)) (accepted there)
 
 jiyuan-requires : tie.Need-jiyuan-requires
 jiyuan-requires c κs = search needs
 
 of-common-year-requires-2 : tie.Need-of-common-year-requires-2
 of-common-year-requires-2 c κs =
-    let request = c .before .before in
-    let args = request .before .before .args in
-    reach-here (args .system) (args .year) _ (jiyuan-picked c) (accepted request)
+    let args = request (second c) .args in
+    in-register-here (args .system) (args .year) _ (jiyuan-picked c) (accepted (second c))
 
 returns-3 : tie.Need-returns-3
 unfolding daysOf
 returns-3 c =
-    let request = c .before .before .before in
-    let args = request .before .before .args in
+    let there = second (c .before) in
+    let args = request there .args in
     let answered = answered-here daysIn noDays (args .system) (args .year) in
-    c .of-common-year2 .ensures ∙ answered _ (jiyuan-picked (c .before)) (accepted request)
+    c .of-common-year2 .ensures ∙ answered _ (jiyuan-picked (c .before)) (accepted there)
 
 pub days-spec : {M : Type 1} → statement M
 days-spec =

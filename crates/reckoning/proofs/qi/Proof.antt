@@ -1,7 +1,7 @@
 use mathlib.Core.Path.{sym, ap, _∙_}
 use Rattle.reckoning.specs.Requests.{qiIn, noQi, qiOf}
 use Rattle.reckoning.proofs.RefusalCases.{accepted-qi}
-use Rattle.reckoning.proofs.AnswerUnless.{refused, answered, within-reach}
+use Rattle.reckoning.proofs.AnswerUnless.{refused, answered, asked-in-register}
 use borrow.Author.Needs.{needs}
 use Rattle.reckoning.proofs.qi.Statement.{statement}
 use Rattle.reckoning.proofs.qi.Tie as tie
@@ -19,7 +19,7 @@ qi-requires : tie.Need-qi-requires
 qi-requires c κs =
     let asked = c .before .before .of-qi .ensures in
     let in-scope = accepted-qi _ _ _ (sym (ap (λ a. a .refusal) asked) ∙ c .if1 .left) in
-    (within-reach _ _ _ _ asked (in-scope .0), in-scope .1)
+    (asked-in-register _ _ _ _ asked (in-scope .0), in-scope .1)
 
 returns-2 : tie.Need-returns-2
 unfolding qiOf

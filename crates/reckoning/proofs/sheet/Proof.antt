@@ -1,7 +1,7 @@
 use mathlib.Core.Path.{sym, ap, _∙_}
 use Rattle.reckoning.specs.Requests.{sheetIn, noSheet, sheetOf}
 use Rattle.reckoning.proofs.RefusalCases.{accepted}
-use Rattle.reckoning.proofs.AnswerUnless.{refused, answered, within-reach}
+use Rattle.reckoning.proofs.AnswerUnless.{refused, answered, asked-in-register}
 use borrow.Author.Needs.{needs}
 use Rattle.reckoning.proofs.sheet.Statement.{statement}
 use Rattle.reckoning.proofs.sheet.Tie as tie
@@ -16,7 +16,7 @@ returns c = refused sheetIn noSheet _ _ (c .before .before .of-year .ensures) (c
 of-year-requires-2 : tie.Need-of-year-requires-2
 of-year-requires-2 c κs =
     let asked = c .before .before .of-year .ensures in
-    within-reach _ _ _ _ asked (accepted _ _ (sym (ap (λ a. a .refusal) asked) ∙ c .if1 .left))
+    asked-in-register _ _ _ _ asked (accepted _ _ (sym (ap (λ a. a .refusal) asked) ∙ c .if1 .left))
 
 returns-2 : tie.Need-returns-2
 unfolding sheetOf

@@ -9,8 +9,18 @@ use borrow.Author.Needs.{needs}
 use Rattle.citation.proofs.judge.judge_day.Statement.{statement}
 use Rattle.citation.proofs.judge.judge_day.Tie as tie
 
+-- The places that the answers go back to, each from the one after it.
+abbrev refused-month : tie.Then1 → tie.After-month
+refused-month c = c .before .before
+
+abbrev month : tie.Else1 → tie.After-month
+month c = c .before .before
+
+abbrev tested : tie.After-outside → tie.Else1
+tested c = c .before .before
+
 day-inside : (c : tie.Else2) →
-    let month = c .before .before .before .before .before in
+    let month = month (tested (c .before)) in
     outside 1 (month .month .result .length) (month .before .args .day) ≡ false
 day-inside c = sym (c .before .outside .ensures) ∙ c .if2 .left
 
@@ -21,7 +31,8 @@ refuse-requires : tie.Need-refuse-requires
 refuse-requires c κs = search needs
 
 returns : tie.Need-returns
-returns c = c .refuse .ensures ∙ month-refused _ _ _ _ _ _ (c .before .before .before .month .ensures) (c .before .if1 .taken)
+returns c =
+    c .refuse .ensures ∙ month-refused _ _ _ _ _ _ (refused-month (c .before) .month .ensures) (c .before .if1 .taken)
 
 cast-outside : tie.Need-cast-outside
 cast-outside c = search needs
@@ -35,20 +46,20 @@ refuse-requires-2 c κs = search needs
 returns-2 : tie.Need-returns-2
 returns-2 c =
     let test = c .before .before in
-    let accepted = test .before .before in
+    let accepted = tested test in
     let wrong = sym (test .outside .ensures) ∙ c .before .if2 .taken in
-    c .refuse2 .ensures ∙ day-wrong _ _ _ _ _ _ (accepted .before .before .month .ensures) (accepted .if1 .left) wrong
+    c .refuse2 .ensures ∙ day-wrong _ _ _ _ _ _ (month accepted .month .ensures) (accepted .if1 .left) wrong
 
 add-accept : tie.Need-add-accept
 add-accept c =
-    let accepted = c .before .before .before .before in
-    let month = accepted .before .before in
+    let accepted = tested (c .before .before) in
+    let month = month accepted in
     let small = month-fits _ _ _ _ _ (month .month .ensures) (accepted .if1 .left) in
     omega (arith, month .before .pre)
 
 sub-accept : tie.Need-sub-accept
 sub-accept c =
-    let month = c .before .before .before .before .before .before in
+    let month = month (tested (c .before .before)) in
     let least = inside-of 1 (month .month .result .length) (month .before .args .day) (day-inside (c .before)) in
     omega arith
 
@@ -57,10 +68,10 @@ accept-requires c κs = search needs
 
 returns-3 : tie.Need-returns-3
 returns-3 c =
-    c .accept .ensures
-    ∙ (let inside = c .before .before in
-    let accepted = inside .before .before .before in
-    day-right _ _ _ _ _ _ (accepted .before .before .month .ensures) (accepted .if1 .left) (day-inside inside))
+    let inside = c .before .before in
+    let accepted = tested (inside .before) in
+    let right = day-right _ _ _ _ _ _ (month accepted .month .ensures) (accepted .if1 .left) (day-inside inside) in
+    c .accept .ensures ∙ right
 
 pub judge-day-spec : {M : Type 1} → statement M
 judge-day-spec =

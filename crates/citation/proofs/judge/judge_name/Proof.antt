@@ -7,9 +7,30 @@ use borrow.Author.Needs.{needs}
 use Rattle.citation.proofs.judge.judge_name.Statement.{statement}
 use Rattle.citation.proofs.judge.judge_name.Tie as tie
 
+-- The places that the answers go back to, each from the one after it.
+abbrev refused-month : tie.Then1 → tie.After-month
+refused-month c = c .before .before
+
+abbrev month : tie.Else1 → tie.After-month
+month c = c .before .before
+
+abbrev no-such-name : tie.Then2 → tie.Else1
+no-such-name c = c .before .before
+
+abbrev accepted : tie.Else2 → tie.Else1
+accepted c = c .before .before
+
+abbrev named : tie.After-day-name → tie.Else2
+named c = c .before .before
+
+abbrev past : tie.Then3 → tie.After-day-name
+past c = c .before .before .before
+
+abbrev not-past : tie.Else3 → tie.After-day-name
+not-past c = c .before .before .before
+
 first-name : (c : tie.After-day-name) →
-    let month = c .before .before .before .before .before .before in
-    c .day-name .result .0 ≡ nameOf (month .month .result .head .0)
+    c .day-name .result .0 ≡ nameOf (month (accepted (named c)) .month .result .head .0)
 first-name c = ap (λ n. n .0) (c .day-name .ensures)
 
 month-requires : tie.Need-month-requires
@@ -19,15 +40,17 @@ refuse-requires : tie.Need-refuse-requires
 refuse-requires c κs = search needs
 
 returns : tie.Need-returns
-returns c = c .refuse .ensures ∙ name-month-refused _ _ _ _ _ _ (c .before .before .before .month .ensures) (c .before .if1 .taken)
+returns c =
+    c .refuse .ensures ∙ name-month-refused _ _ _ _ _ _ (refused-month (c .before) .month .ensures) (c .before .if1 .taken)
 
 refuse-requires-2 : tie.Need-refuse-requires-2
 refuse-requires-2 c κs = search needs
 
 returns-2 : tie.Need-returns-2
 returns-2 c =
-    let accepted = c .before .before .before in
-    c .refuse2 .ensures ∙ no-name _ _ _ _ _ _ (accepted .before .before .month .ensures) (accepted .if1 .left) (c .before .if2 .taken)
+    let test = c .before in
+    let accepted = no-such-name test in
+    c .refuse2 .ensures ∙ no-name _ _ _ _ _ _ (month accepted .month .ensures) (accepted .if1 .left) (test .if2 .taken)
 
 cast-days : tie.Need-cast-days
 cast-days c = search needs
@@ -52,16 +75,16 @@ refuse-requires-3 c κs = search needs
 
 returns-3 : tie.Need-returns-3
 returns-3 c =
-    let first = c .before .before .before .before in
-    let named = first .before .before in
-    let accepted = named .before .before in
-    let past = name-past _ _ _ _ _ _ (accepted .before .before .month .ensures) (accepted .if1 .left) (named .if2 .left) in
-    c .refuse3 .ensures ∙ past (omega (arith, c .before .if3 .taken, first-name first))
+    let first = past (c .before) in
+    let named = named first in
+    let accepted = accepted named in
+    let refused = name-past _ _ _ _ _ _ (month accepted .month .ensures) (accepted .if1 .left) (named .if2 .left) in
+    c .refuse3 .ensures ∙ refused (omega (arith, c .before .if3 .taken, first-name first))
 
 add-accept : tie.Need-add-accept
 add-accept c =
-    let accepted = c .before .before .before .before .before .before .before .before in
-    let small = month-fits _ _ _ _ _ (accepted .before .before .month .ensures) (accepted .if1 .left) in
+    let accepted = accepted (named (not-past (c .before))) in
+    let small = month-fits _ _ _ _ _ (month accepted .month .ensures) (accepted .if1 .left) in
     omega arith
 
 add-accept-2 : tie.Need-add-accept-2
@@ -72,12 +95,12 @@ accept-requires c κs = search needs
 
 returns-4 : tie.Need-returns-4
 returns-4 c =
-    c .accept .ensures
-    ∙ (let first = c .before .before .before .before .before in
-    let named = first .before .before in
-    let accepted = named .before .before in
-    let right = name-right-from _ _ _ _ _ _ (accepted .before .before .month .ensures) _ (first-name first) in
-    right (accepted .if1 .left) (named .if2 .left) (c .before .before .if3 .left))
+    let test = c .before .before in
+    let first = not-past test in
+    let named = named first in
+    let accepted = accepted named in
+    let right = name-right-from _ _ _ _ _ _ (month accepted .month .ensures) _ (first-name first) in
+    c .accept .ensures ∙ right (accepted .if1 .left) (named .if2 .left) (test .if3 .left)
 
 pub judge-name-spec : {M : Type 1} → statement M
 judge-name-spec =

@@ -7,6 +7,19 @@ use borrow.Author.Needs.{needs}
 use Rattle.citation.proofs.store.chiselbrow_store.Statement.{statement}
 use Rattle.citation.proofs.store.chiselbrow_store.Tie as tie
 
+-- The places that the answers go back to, each from the one after it.
+abbrev start : tie.After-judge → tie.Start
+start c = c .before .before .before
+
+abbrev refused : tie.Then1 → tie.After-judge
+refused c = c .before .before
+
+abbrev judged : tie.Else1 → tie.After-judge
+judged c = c .before .before
+
+abbrev room : tie.After-put → tie.Else2
+room c = c .before .before .before
+
 judge-requires : tie.Need-judge-requires
 judge-requires c κs = search needs
 
@@ -18,8 +31,8 @@ mul-result c = search needs
 
 returns : tie.Need-returns
 returns c =
-    let judged = c .before .before in
-    let output = judged .before .before .before .args .output .now in
+    let judged = refused c in
+    let output = start judged .args .output .now in
     let r = refusal-kept _ _ _ (judged .judge .ensures) (c .if1 .taken) in
     (answer-refused _ _ (c .if1 .taken) _ r, output-refused _ _ (c .if1 .taken) output r)
 
@@ -31,8 +44,8 @@ mul-result-2 c = search needs
 
 returns-2 : tie.Need-returns-2
 returns-2 c =
-    let judged = c .before .before .before in
-    let output = judged .before .before .before .args .output .now in
+    let judged = judged (c .before) in
+    let output = start judged .args .output .now in
     let r = refusal-output _ _ _ (judged .judge .ensures) (c .before .if1 .left) (c .if2 .taken) in
     (answer-refused _ OUTPUT (λ z. omega arith) _ r, output-refused _ OUTPUT (λ z. omega arith) output r)
 
@@ -48,10 +61,10 @@ same-length c = search needs
 returns-3 : tie.Need-returns-3
 returns-3 c =
     let put = c .before .before .before in
-    let room = put .before .before .before in
+    let room = room put in
     let accepted = room .before in
-    let judged = accepted .before .before in
-    let output = judged .before .before .before .args .output .now in
+    let judged = judged accepted in
+    let output = start judged .args .output .now in
     let j = judged .judge .ensures in
     let r = refusal-none _ _ _ j (accepted .if1 .left) (room .if2 .left) in
     (answer-accepted _ _ j _ r, put .put .ensures ∙ output-accepted _ _ j output r)

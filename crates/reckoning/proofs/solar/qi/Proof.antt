@@ -3,6 +3,10 @@ use borrow.Author.Needs.{needs}
 use Rattle.reckoning.proofs.solar.qi.Statement.{statement}
 use Rattle.reckoning.proofs.solar.qi.Tie as tie
 
+-- Where the moment is reckoned, with what was asked.
+abbrev moment : tie.After-struct-known3 → tie.Start
+moment c = c .before .before .before
+
 mul-moment : tie.Need-mul-moment
 mul-moment c = search needs
 
@@ -14,12 +18,12 @@ mul-moment-3 c = search needs
 
 mul-moment-4 : tie.Need-mul-moment-4
 mul-moment-4 c =
-    let start = c .before .before .before in
+    let start = moment c in
     omega (arith, start .pre .0 .qi-small (start .args .i) (start .pre .1))
 
 add-moment : tie.Need-add-moment
 add-moment c =
-    let start = c .before .before .before in
+    let start = moment c in
     omega (arith, start .pre .0 .qi-small (start .args .i) (start .pre .1))
 
 div-parts : tie.Need-div-parts
@@ -30,7 +34,7 @@ div-register-day c = search needs
 
 register-day-requires : tie.Need-register-day-requires
 register-day-requires c κs =
-    let start = c .before .before .before .before .before in
+    let start = moment (c .before .before) in
     start .pre .0 .qi-day (start .args .i) (start .pre .1)
 
 rest-requires : tie.Need-rest-requires
