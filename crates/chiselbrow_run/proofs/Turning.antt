@@ -16,7 +16,7 @@ use Rattle.lines.specs.Program.{misframed, framed, framing, linesOf, endingOf, 
 use Rattle.lines.proofs.AllRecords.{all-records, rest-shorter, rest, unfinished}
 use Rattle.chiselbrow_run.specs.Turn.{restOf, stops, turnText, turnOf, atFront, Turned}
 
--- Whether the run goes on, by the test for a length field that no record has.
+-- Whether the run goes on before the end of the input, by the test for a length field that no record has.
 pub going : {ended bad answered : Bool} → ended ≡ false → answered ≡ bad → not answered ≡ not (ended || bad)
 going {ended} {bad} {answered} not-ended same = ap₂ (λ e b. not (e || b)) (sym not-ended) same
 

@@ -57,20 +57,21 @@ pub wrote-accepted : {b a : List ℕ} {at end : ℕ} {j : Judgement} (s : List �
 wrote-accepted {j = j} s e h w = wrote-as (line-accepted s j e h) w
 
 -- No line is longer than 64 bytes.
-stored-length : (stored : List ℕ) (r : ℕ) → length (storedLine stored r) ≤ 64
-unfolding storedLine
-stored-length stored r =
-    let first = year (systemOf stored) (yearField stored) in
-    let second = month (monthField stored) (leapField stored) in
-    let last = dayField stored ∷ r ∷ nameOf r ∷ [] in
+words-length : (system n number leap day r name : ℕ) → length (words system n number leap day r name) ≤ 64
+words-length system n number leap day r name =
+    let last = day ∷ r ∷ name ∷ [] in
     omega (
       arith,
-      length-append first (second ++ line [] last),
-      length-append second (line [] last),
-      year-length (systemOf stored) (yearField stored),
-      month-length (monthField stored) (leapField stored),
+      length-append (year system n) (month number leap ++ line [] last),
+      length-append (month number leap) (line [] last),
+      year-length system n,
+      month-length number leap,
       line-length [] last,
     )
+
+stored-length : (stored : List ℕ) (r : ℕ) → length (storedLine stored r) ≤ 64
+unfolding storedLine
+stored-length stored r = words-length _ _ _ _ _ _ _
 
 pub line-short : (s : List ℕ) → length (lineOf s) ≤ 64
 unfolding lineOf

@@ -22,7 +22,9 @@ same-length : tie.Need-same-length Inv-loop μ-loop
 same-length c = search needs
 
 returns : tie.Need-returns Inv-loop μ-loop
-returns c = search filled-full
+returns c =
+    let inv = c .before .before .loop .inv in
+    filled-full (inv .1) _ (inv .0) (c .if1 .taken)
 
 page-requires : tie.Need-page-requires Inv-loop μ-loop
 page-requires c κs = search needs
@@ -37,7 +39,10 @@ loop-less : tie.Need-loop-less Inv-loop μ-loop
 loop-less c = omega arith
 
 loop-again : tie.Need-loop-again Inv-loop μ-loop
-loop-again c = (omega arith, search filling-more)
+loop-again c =
+    let put = c .before .before .before in
+    let turn = put .before .before .before .before in
+    (omega arith, filling-more (turn .loop .inv .1) (put .page .ensures) (put .before .before .if1 .left) (c .next-year .ensures))
 
 same-length-2 : tie.Need-same-length-2 Inv-loop μ-loop
 same-length-2 c = search needs

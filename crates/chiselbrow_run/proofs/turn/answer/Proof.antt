@@ -44,7 +44,12 @@ same-length-2 : tie.Need-same-length-2
 same-length-2 c = search needs
 
 returns : tie.Need-returns
-returns c = search turned
+returns c =
+    let kept = c .before .before in
+    let ended = kept .before .before .before .before in
+    let judged = ended .before .before .before .before in
+    let converted = judged .before .before .before .before .before in
+    turned _ _ _ _ _ (omega arith) (converted .convert .ensures) (judged .goes-on .ensures) (ended .end .ensures) (kept .keep .ensures)
 
 pub answer-spec : {M : Type 1} → statement M
 answer-spec =

@@ -4,13 +4,13 @@ use Rattle.chiselbrow_run.proofs.turn.goes_on.Statement.{statement}
 use Rattle.chiselbrow_run.proofs.turn.goes_on.Tie as tie
 
 returns : tie.Need-returns
-returns c = search needs
+returns c = simp (c .if1 .taken)
 
 is-misframed-requires : tie.Need-is-misframed-requires
 is-misframed-requires c κs = search needs
 
 returns-2 : tie.Need-returns-2
-returns-2 c = search going
+returns-2 c = going (c .before .if1 .left) (c .is-misframed .ensures)
 
 pub goes-on-spec : {M : Type 1} → statement M
 goes-on-spec = tie.close (tie.spec returns is-misframed-requires returns-2)

@@ -40,7 +40,9 @@ loop-less : tie.Need-loop-less Inv-loop μ-loop
 loop-less c = search needs
 
 loop-again : tie.Need-loop-again Inv-loop μ-loop
-loop-again c = (simp length-set (omega arith), omega arith, omega arith, search moved-more)
+loop-again c =
+    let inv = c .before .before .loop .inv in
+    (simp length-set (omega arith), omega arith, omega arith, moved-more _ _ _ _ (inv .3) (inv .1) (c .before .loop-test .taken))
 
 same-length : tie.Need-same-length Inv-loop μ-loop
 same-length c = search needs

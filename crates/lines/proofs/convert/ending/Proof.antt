@@ -13,7 +13,10 @@ same-length : tie.Need-same-length
 same-length c = search needs
 
 returns-2 : tie.Need-returns-2
-returns-2 c = search put-ending
+returns-2 c =
+    let refused = c .before .before in
+    let some = refused .before .before in
+    put-ending (some .before .before .before .args .rest .now) (some .if1 .left) (refused .refused .ensures)
 
 pub ending-spec : {M : Type 1} → statement M
 ending-spec = tie.close (tie.spec returns refused-requires same-length returns-2)

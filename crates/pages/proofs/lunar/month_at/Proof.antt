@@ -45,7 +45,9 @@ same-length : tie.Need-same-length
 same-length c = search needs
 
 returns : tie.Need-returns
-returns c = (search wrote-month-at, omega arith)
+returns c =
+    let put = c .before .before in
+    (wrote-month-at _ _ (put .before .name .ensures) (put .month-line .ensures .0), omega arith)
 
 pub month-at-spec : {M : Type 1} → statement M
 month-at-spec =
