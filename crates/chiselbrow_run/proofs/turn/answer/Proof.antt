@@ -1,4 +1,3 @@
-use native.Mathlib.Omega.{arith}
 use Rattle.chiselbrow_run.proofs.Turning.{turned}
 use borrow.Author.Needs.{needs}
 use Rattle.chiselbrow_run.proofs.turn.answer.Statement.{statement}
@@ -49,7 +48,8 @@ returns c =
     let ended = kept .before .before .before .before in
     let judged = ended .before .before .before .before in
     let converted = judged .before .before .before .before .before in
-    turned _ _ _ _ _ (omega arith) (converted .convert .ensures) (judged .goes-on .ensures) (ended .end .ensures) (kept .keep .ensures)
+    let start = converted .before .before .before .before .before in
+    turned _ _ _ _ _ (start .pre) (converted .convert .ensures) (judged .goes-on .ensures) (ended .end .ensures) (kept .keep .ensures)
 
 pub answer-spec : {M : Type 1} → statement M
 answer-spec =
