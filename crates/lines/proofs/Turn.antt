@@ -1,6 +1,6 @@
 -- One turn of the loop over a buffer.
-use Prim.Native.Nat.{ℕ, _+_, _-_, _≤_}
-use mathlib.Core.Path.{_≡_, ap, ap₂, sym, _∙_}
+use Prim.Native.Nat.{ℕ, _+_, _-_, _≤_, _<_}
+use mathlib.Core.Path.{_≡_, refl, ap, ap₂, sym, _∙_}
 use mathlib.Core.List.{List, [], _++_, append-assoc, append-nil}
 use native.Mathlib.Omega.{arith}
 use lib.ListN.{length, take, drop, length-drop, take-append-drop}
@@ -11,9 +11,9 @@ use Rattle.calendar.proofs.Rising.{by-order}
 use Rattle.citation.specs.Record.{lengthField}
 use Rattle.lines.specs.Line.{lineOf}
 use Rattle.text.specs.Wrote.{Wrote}
-use Rattle.lines.specs.Program.{framed, framing, noPortion, portionThen, portionOf, nextOf, progressOf, linesInto}
+use Rattle.lines.specs.Program.{framed, framing, noPortion, portionThen, portionOf, nextOf, progressOf, linesInto, Converted}
 use Rattle.text.proofs.Writing.{wrote-front, wrote-back}
-use Rattle.lines.proofs.Framing.{Next}
+use Rattle.lines.proofs.Framing.{Next, next-is}
 use Rattle.lines.proofs.Cutting.{some-bytes, portion-full, portion-none, portion-more}
 
 -- The lines so far, and then what the rest of the output takes, are what the whole takes.
@@ -21,7 +21,7 @@ abbrev pub SoFar : List ℕ → ℕ → ℕ → List ℕ → ℕ → Type 0
 SoFar s size read out written =
     portionOf s size ≡ portionThen read (take written out) (portionOf (drop read s) (size - written))
 
-pub so-far-starts : (s : List ℕ) (size : ℕ) (out : List ℕ) → SoFar s size 0 out 0
+so-far-starts : (s : List ℕ) (size : ℕ) (out : List ℕ) → SoFar s size 0 out 0
 so-far-starts s size out =
     let all : size - 0 ≡ size = omega arith in
     let p = portionOf s size in
@@ -30,7 +30,7 @@ so-far-starts s size out =
 
 module _ (s out out′ : List ℕ) (read written written′ size n : ℕ) (here : Next s read (size - written) n)
     (w : Wrote out written (lineOf (take (read + n - read) (drop read s))) out′ written′) where
-  pub one-more : SoFar s size read out written → SoFar s size (read + n) out′ written′
+  one-more : SoFar s size read out written → SoFar s size (read + n) out′ written′
   one-more so-far =
       let f = drop read s in
       let line = lineOf (take n f) in
@@ -54,7 +54,7 @@ module _ (s out out′ : List ℕ) (read written written′ size n : ℕ) (here 
       ∙ ap (portionThen read (take written out)) next
       ∙ ap₂ (λ k t. record { read = k; text = t }) far longer
 
-  pub rest-kept : (before : List ℕ) → drop written out ≡ drop written before → drop written′ out′ ≡ drop written′ before
+  rest-kept : (before : List ℕ) → drop written out ≡ drop written before → drop written′ out′ ≡ drop written′ before
   rest-kept before e =
       let on : written + (written′ - written) ≡ written′ = omega (arith, w .ends) in
       wrote-back out out′ _ written written′ w
@@ -65,7 +65,7 @@ module _ (s out out′ : List ℕ) (read written written′ size n : ℕ) (here 
       ∙ ap (λ k. drop k before) on
 
 -- The record lies within the buffer.
-pub read-inside : (s : List ℕ) (read size n : ℕ) → Next s read size n → read ≤ length s → read + n ≤ length s
+read-inside : (s : List ℕ) (read size n : ℕ) → Next s read size n → read ≤ length s → read + n ≤ length s
 read-inside s read size n here h = omega (arith, here .all-there, length-drop read s)
 
 -- Where no record is next, nothing more is taken.
@@ -90,14 +90,77 @@ module _ (s out before : List ℕ) (read written : ℕ) (so-far : SoFar s (lengt
       ∙ ap (portionThen read (take written out)) (nothing-next s read (length before - written) no-more)
       ∙ ap₂ (λ n t. record { read = n; text = t }) none (append-nil (take written out))
 
-  pub progress-is : written ≤ length out → record { read = read; written = written } ≡ progressOf (portionOf s (length before))
+  progress-is : written ≤ length out → record { read = read; written = written } ≡ progressOf (portionOf s (length before))
   progress-is h =
       sym (ap progressOf all-taken ∙ ap (λ n. record { read = read; written = n }) (length-take-le written out h))
 
-  pub output-is : written ≤ length out → drop written out ≡ drop written before → out ≡ linesInto (portionOf s (length before)) before
+  output-is : written ≤ length out → drop written out ≡ drop written before → out ≡ linesInto (portionOf s (length before)) before
   output-is h rest =
       sym
       (ap (λ p. linesInto p before) all-taken
       ∙ ap (λ n. take written out ++ drop n before) (length-take-le written out h)
       ∙ ap (λ t. take written out ++ t) (sym rest)
       ∙ take-append-drop written out)
+
+-- So far a buffer was converted: so much was read and written, and the record of n bytes is next.
+pub record Converting (input before out : List ℕ) (read written n : ℕ) : Type 0 where
+  pub read-within : read ≤ length input
+  pub written-within : written ≤ length out
+  pub same-length : length out ≡ length before
+  pub next : n ≡ nextOf input read (length before - written)
+  pub so-far : SoFar input (length before) read out written
+  pub rest-same : drop written out ≡ drop written before
+
+pub converting-starts : {n : ℕ} (input out : List ℕ) → n ≡ nextOf input 0 (length out) → Converting input out out 0 0 n
+converting-starts input out next =
+    let all : length out ≡ length out - 0 = omega arith in
+    record {
+      read-within = omega arith;
+      written-within = omega arith;
+      same-length = refl;
+      next = next ∙ ap (nextOf input 0) all;
+      so-far = so-far-starts input (length out) out;
+      rest-same = refl;
+    }
+
+module _ {input before out : List ℕ} {read written n : ℕ} (κ : Converting input before out read written n) (some : n ≡ 0 → ⊥) where
+  here : Next input read (length before - written) n
+  here = next-is _ _ _ _ (κ .next) some
+
+  -- The next record lies within the buffer, and its line has room.
+  pub record-within : read + n ≤ length input
+  record-within = read-inside input read (length before - written) n here (κ .read-within)
+
+  pub line-has-room : written + 64 ≤ length out
+  line-has-room = omega (arith, here .room, κ .written-within, κ .same-length)
+
+  pub less-left : length input - (read + n) < length input - read
+  less-left = omega (arith, here .at-least, record-within)
+
+  pub converting-more : {out′ : List ℕ} {written′ n′ : ℕ}
+      → Wrote out written (lineOf (take (read + n - read) (drop read input))) out′ written′
+      → n′ ≡ nextOf input (read + n) (length out′ - written′)
+      → Converting input before out′ (read + n) written′ n′
+  converting-more {out′} {written′} {n′} w next =
+      let long = w .same-length ∙ κ .same-length in
+      record {
+        read-within = record-within;
+        written-within = omega (arith, w .fits, w .same-length);
+        same-length = long;
+        next = next ∙ ap (λ k. nextOf input (read + n) (k - written′)) long;
+        so-far = one-more _ _ _ _ _ _ _ _ here w (κ .so-far);
+        rest-same = rest-kept _ _ _ _ _ _ _ _ here w _ (κ .rest-same);
+      }
+
+-- Where no record is next, all is converted.
+pub converted : {input before out : List ℕ} {read written n : ℕ} → Converting input before out read written n → n ≡ 0
+    → Converted input before out (record { read = read; written = written })
+converted {input} {before} {out} {read} {written} κ none =
+    let no-more = sym (κ .next) ∙ none in
+    record {
+      progress = progress-is input out before read written (κ .so-far) no-more (κ .written-within);
+      output = output-is input out before read written (κ .so-far) no-more (κ .written-within) (κ .rest-same);
+      read-within = κ .read-within;
+      written-within = κ .written-within;
+      same-length = κ .same-length;
+    }
