@@ -1,6 +1,8 @@
 -- What the run does between one call of the system and the next.
 -- One turn.
 pub mod Turn
+-- What a step leaves.
+pub mod Stepped
 -- What the buffers have room for.
 pub mod Buffers
 -- Turn after turn.

@@ -1,10 +1,12 @@
 // The run of the program chiselbrow. What it answers is in `lines`, and what it does between two calls of the system in
 // `turn`; here bytes are moved between that and the system.
 ghost use mathlib.Core.Path.{_≡_};
+ghost use mathlib.Core.Bool.{true, false};
 ghost use Prim.Native.Nat.{_≤_};
-ghost use lib.ListN.{length};
+ghost use lib.ListN.{length, take};
 ghost use Rattle.process.specs.Exit.{Written, Ended};
 ghost use Rattle.chiselbrow_run.specs.Buffers.{Buffers};
+ghost use Rattle.chiselbrow_run.specs.Stepped.{Stepped, ReadAndAnswered};
 use arguments::options;
 use arguments::options::Wish;
 use libc::STDERR_FILENO;
@@ -24,7 +26,7 @@ struct Step {
 }
 
 fn failed_step(what: &[u8]) -> Step
-    ensures { λ r. ⌜ r .left ≡ 0 ⌝ }
+    ensures { λ r. ⌜ r ≡ record { failed = true; more = false; left = 0; read = 0 } ⌝ }
 {
     exit::fail(what);
     Step {
@@ -38,7 +40,7 @@ fn failed_step(what: &[u8]) -> Step
 // Answers the records among the first `filled` bytes, and writes their lines.
 fn write_answer(input: &mut [u8], filled: usize, ended: bool, out: &mut [u8]) -> Step
     requires { ⌜ (filled ≤ length (now input)) × Buffers (now input) (now out) ⌝ }
-    ensures { λ r. ⌜ r .left ≤ length (now (input .exit)) ⌝ }
+    ensures { λ r. ⌜ Stepped ended (take filled (now (input .entry))) (now (input .exit)) r ⌝ }
 {
     let t = answer(&mut input[..filled], ended, out);
     let written = t.written;
@@ -56,7 +58,7 @@ fn write_answer(input: &mut [u8], filled: usize, ended: bool, out: &mut [u8]) ->
 // Reads once after the bytes that were kept, and answers.
 fn read_and_answer(input: &mut [u8], kept: usize, out: &mut [u8]) -> Step
     requires { ⌜ (kept ≤ length (now input)) × Buffers (now input) (now out) ⌝ }
-    ensures { λ r. ⌜ r .left ≤ length (now (input .exit)) ⌝ }
+    ensures { λ r. ⌜ ReadAndAnswered (take kept (now (input .entry))) (now (input .exit)) r ⌝ }
 {
     let got = streams::read(&mut input[kept..]);
     if got.failed {

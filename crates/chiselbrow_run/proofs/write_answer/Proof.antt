@@ -1,7 +1,8 @@
 use mathlib.Core.Path.{sym}
 use native.Mathlib.Omega.{arith}
-use lib.ListN.{length-append, length-take}
+use lib.ListN.{length-take}
 use lib.Seq.{length-take-le}
+use Rattle.chiselbrow_run.proofs.Stepping.{failed-step, written-step}
 use borrow.Author.Needs.{needs}
 use Rattle.chiselbrow_run.proofs.write_answer.Statement.{statement}
 use Rattle.chiselbrow_run.proofs.write_answer.Tie as tie
@@ -37,7 +38,7 @@ same-length-2 : tie.Need-same-length-2
 same-length-2 c = search needs
 
 returns : tie.Need-returns
-returns c = search needs
+returns c = search failed-step
 
 same-length-3 : tie.Need-same-length-3
 same-length-3 c = search needs
@@ -46,7 +47,7 @@ same-length-4 : tie.Need-same-length-4
 same-length-4 c = search needs
 
 returns-2 : tie.Need-returns-2
-returns-2 c = simp length-append (omega arith)
+returns-2 c = search written-step
 
 pub write-answer-spec : {M : Type 1} → statement M
 write-answer-spec =
