@@ -20,10 +20,15 @@ use Rattle.almanac_run.specs.Pages.{yearAfter, pagesOf, FilledWith}
 pub record Filling (system first : ℕ) (before out : List ℕ) (pages year end : ℕ) : Type 0 where
   pub text : Wrote before 0 (pagesOf system first pages) out end
   pub year-after : year ≡ yearAfter first pages
+  pub each-had-room : (n : ℕ) → n < pages → length (pagesOf system first n) + 8192 ≤ length before
 
 pub filling-starts : (system first : ℕ) (before : List ℕ) → first ≤ most → Filling system first before before 0 first 0
 filling-starts system first before h =
-    record { text = wrote-no-texts (λ i. pageOf system (yearAfter first i)) (omega arith); year-after = omega arith }
+    record {
+      text = wrote-no-texts (λ i. pageOf system (yearAfter first i)) (omega arith);
+      year-after = omega arith;
+      each-had-room = λ n l. absurd (omega arith);
+    }
 
 module _ {system first : ℕ} {before out : List ℕ} {pages year end : ℕ} (f : Filling system first before out pages year end) where
   pub filling-more : {out′ : List ℕ} {year′ end′ : ℕ}
@@ -36,13 +41,25 @@ module _ {system first : ℕ} {before out : List ℕ} {pages year end : ℕ} (f 
       record {
         text = wrote-one-more (λ i. pageOf system (yearAfter first i)) pages (f .text) (wrote-as (ap (pageOf system) (f .year-after)) w);
         year-after = omega (arith, f .year-after);
+        each-had-room = λ n l.
+            by-order n pages
+            (λ before-it. f .each-had-room n before-it)
+            (λ at-it.
+            let last : n ≡ pages = omega arith in
+            omega (arith, f .text .ends, f .text .fits, f .text .same-length, ap (λ k. length (pagesOf system first k)) last));
       }
 
   -- All are there, or the buffer is full.
   pub filled-all : (count : ℕ) → pages ≤ count → count ≤ pages
       → FilledWith system first count before out (record { pages = pages; year = year; end = end })
   filled-all count l h =
-      record { text = f .text; year-after = f .year-after; no-more = l; all-or-full = inl (omega arith) }
+      record {
+        text = f .text;
+        year-after = f .year-after;
+        no-more = l;
+        each-had-room = f .each-had-room;
+        all-or-full = inl (omega arith);
+      }
 
   pub filled-full : (count : ℕ) → pages ≤ count → length out - end < 8192
       → FilledWith system first count before out (record { pages = pages; year = year; end = end })
@@ -51,6 +68,7 @@ module _ {system first : ℕ} {before out : List ℕ} {pages year end : ℕ} (f 
         text = f .text;
         year-after = f .year-after;
         no-more = l;
+        each-had-room = f .each-had-room;
         all-or-full = inr (omega (arith, f .text .same-length));
       }
 
