@@ -61,7 +61,8 @@ sky:
 # stopped being records is the input's affair, and no error of make's.
 run:
 	@$(MAKE) --silent build/chiselbrow < /dev/null >&2
-	@build/chiselbrow || [ $$? -eq 1 ]
+	@build/chiselbrow 2> build/run.log; status=$$?; cat build/run.log >&2; \
+	    [ $$status -eq 0 ] || grep -q ': no record at byte' build/run.log
 
 # Header, libraries, programs, manual pages, and a file for pkg-config.
 install: all

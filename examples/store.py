@@ -15,36 +15,55 @@ import sys
 
 STORED_SIZE = 10
 
-library = ctypes.CDLL("libchiselbrow.so.1")
-library.chiselbrow_store.restype = ctypes.c_uint64
-library.chiselbrow_store.argtypes = [ctypes.c_char_p, ctypes.c_size_t, ctypes.c_char_p, ctypes.c_size_t]
+
+def load():
+    """The storing step of the shared library."""
+    store = ctypes.CDLL("libchiselbrow.so.1").chiselbrow_store
+    store.restype = ctypes.c_uint64
+    store.argtypes = [ctypes.c_char_p, ctypes.c_size_t, ctypes.c_char_p, ctypes.c_size_t]
+    return store
+
+
+def fitted(number, most):
+    """A number for a field, or the field's largest, which is refused as the number would be."""
+    return number if 0 <= number <= most else most
 
 
 def cite_date(system, year, month, leap, day):
-    """A citation of kind 1; struct.error for a number that does not fit its field."""
-    return struct.pack("<HHBHBBB", STORED_SIZE, 1, system, year, month, leap, day)
+    """A citation of kind 1."""
+    fields = [fitted(system, 0xFF), fitted(year, 0xFFFF), fitted(month, 0xFF), fitted(leap, 0xFF), fitted(day, 0xFF)]
+    return struct.pack("<HHBHBBB", STORED_SIZE, 1, *fields)
 
 
-def store(citation):
+def answer(store, citation):
     """The refusal number, the register day and the stored record."""
     stored = ctypes.create_string_buffer(STORED_SIZE)
-    answer = library.chiselbrow_store(citation, len(citation), stored, STORED_SIZE)
-    return answer >> 32 & 0xFF, answer & 0xFFFFFFFF, stored.raw
+    given = store(citation, len(citation), stored, STORED_SIZE)
+    return given >> 32 & 0xFF, given & 0xFFFFFFFF, stored.raw
 
 
 def main():
     try:
         citation = cite_date(*map(int, sys.argv[1:]))
-    except (ValueError, TypeError, struct.error):
+    except (ValueError, TypeError):
         print("usage: store.py SYSTEM YEAR MONTH LEAP DAY", file=sys.stderr)
         return 2
-    refusal, day, stored = store(citation)
-    if refusal != 0:
-        print("refused", refusal)
-        return 1
-    print("day", day)
-    print("record", stored.hex(" ").upper())
-    return 0
+    if sys.stdout is None:
+        print("store.py: standard output is closed", file=sys.stderr)
+        return 2
+    try:
+        refusal, day, stored = answer(load(), citation)
+        if refusal != 0:
+            print("refused", refusal, flush=True)
+            return 1
+        print("day", day)
+        print("record", stored.hex(" ").upper(), flush=True)
+        return 0
+    except OSError as error:
+        print("store.py:", error, file=sys.stderr)
+        sys.stderr.flush()
+        sys.stdout = None  # what could not be written is not tried again at the end
+        return 2
 
 
 if __name__ == "__main__":

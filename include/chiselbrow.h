@@ -52,8 +52,9 @@
  *               the common year before; its months run 11, 12, 1, 2 up to 10.
  *               So Guantian year 1094, month 11, day 1 is 21 November 1093 of
  *               the Julian calendar. Where a source begins its years with
- *               month 1, its months 11 and 12 are cited here with the number
- *               of the year after: month 11 of its 1093 is month 11 of 1094.
+ *               month 1, its months 11 and 12, leap or not, are cited here
+ *               with the number of the year after: month 11 of its 1093 is
+ *               month 11 of 1094. A leap month 10 stays with its year.
  *
  * leap          The twelve middle qi, equal steps of the sun's year counted
  *               from the winter solstice, give the months their numbers. A

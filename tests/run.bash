@@ -1,4 +1,5 @@
 # Sourced by tests that look at all that a run of a program tells. The test sets `name` to its own.
+[ -e build/faults.so ] || { echo "${name:?}: build/faults.so is missing: make test-tools" >&2; exit 1; }
 scratch=$(mktemp -d)
 trap 'rm -rf "$scratch"' EXIT
 export LC_ALL=C
