@@ -1,4 +1,5 @@
 -- Citations: their records, the day that they name, their refusals, and what the storing step promises.
+-- The words of this trade are in docs/TERMS.md, and how to read this notation is in docs/READING.md.
 -- The record formats of the four kinds.
 pub mod Record
 -- The month of a citation, and the day that it names, by the reckoning.

@@ -1,4 +1,5 @@
 -- What the requests promise, for every input.
+-- The words of this trade are in docs/TERMS.md, and how to read this notation is in docs/READING.md.
 -- What is in scope: systems, years, months and days.
 pub mod Scope
 -- The numbers of the refusals.
