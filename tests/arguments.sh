@@ -31,6 +31,20 @@ about() {
     told "$program --help in pieces" 0 "$scratch/help" ''
 }
 
+# A failed write, be it the first or a later one, is told.
+unwritable() {
+    local wish n
+    for wish in --help --version; do
+        for ((n = 1; ; n++)); do
+            FAULT=write FAULT_AT=$n FAULT_ERROR=28 with "$wish"
+            grep -q '^write -28' "$scratch/calls" || break
+            cp "$scratch/out" "$scratch/begun"
+            told "$program $wish, write $n failed" 1 "$scratch/begun" "$program: standard output: No space left on device"
+        done
+        [ "$n" -gt 1 ] || fail "$program $wish: no write was seen"
+    done
+}
+
 # Arguments that are none of its own.
 wrong() {
     with "$@"
@@ -59,12 +73,14 @@ LD_PRELOAD=$PWD/build/faults.so run build/chiselbrow < /dev/null
 grep -qx 'read 0' "$scratch/calls" || fail "a program's reads are not seen"
 
 about chiselbrow 'usage: chiselbrow [--help | --version] < records'
+unwritable
 unlike
 wrong x
 wrong x y
 wrong examples/case-9.bin
 
 about almanac 'usage: almanac year SYSTEM FIRST [LAST]'
+unwritable
 unlike
 wrong
 wrong page 1 1092

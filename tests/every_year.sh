@@ -59,4 +59,15 @@ compare 1 "${digits}098" "${digits}101"
 compare 2 "${digits}0" "$digits"
 compare 1 "8$digits" "${digits}9"
 
+# The longest arguments that the system takes.
+digits=$(head -c 131070 /dev/zero | tr '\0' 7)
+compare 1 "${digits}1" "${digits}2"
+compare "${digits}1" 1092
+
+# Ranges of more years than 32 and 64 bits count: a refused line for each, as far as is read.
+for last in 4294970299 18446744073709554619; do
+    came=$({ build/almanac year 1 3001 "$last" 2> "$scratch/error" || true; } | head -n 100000 | uniq -c | tr -s ' ')
+    [ "$came" = ' 100000 refused 5' ] || fail "years 3001 to $last: $came"
+done
+
 echo "every_year: 6000 years are the same ($lines lines in system 2), and so is what is refused"

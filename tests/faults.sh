@@ -129,6 +129,12 @@ plain 3 2
 every_fault read "$EIO"
 every_fault write "$ENOSPC"
 
+# A call that is interrupted a thousand times on end.
+head -c 38 examples/case-9.bin > "$input"
+build/independent lines < "$input" > "$scratch/right"
+due_status=0 due_line=
+INTERRUPTS=1000 plain 2 1
+
 program=almanac input=/dev/null due_status=0 due_line=
 command=(build/almanac year 2 2999 3001)
 build/independent almanac "${command[@]:2}" > "$scratch/right"

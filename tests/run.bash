@@ -28,8 +28,9 @@ told() {
 record_ends() {
     od -An -v -tu1 -w1 "$1" | awk '
         BEGIN { print at = 0 }
+        ended { next }
         NR == at + 1 { low = $1; next }
-        NR == at + 2 { long = low + 256 * $1; if (long < 4 || 64 < long) exit }
+        NR == at + 2 { long = low + 256 * $1; ended = long < 4 || 64 < long; next }
         NR == at + long { print at += long }'
 }
 

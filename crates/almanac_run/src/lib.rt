@@ -1,5 +1,6 @@
 // The run of the program almanac: `almanac year SYSTEM FIRST [LAST]`.
-ghost use Rattle.process.specs.Exit.{Written, Ended};
+ghost use mathlib.Core.Path.{_≡_};
+ghost use Rattle.process.specs.Exit.{misused, AnsweredOrFailed, Ended};
 use arguments::number;
 use arguments::number::Argument;
 use arguments::options;
@@ -28,7 +29,7 @@ fn years_at(i: usize, j: usize) -> Years {
 }
 
 fn misuse() -> u32
-    ensures { λ r. ⌜ Ended r ⌝ }
+    ensures { λ r. ⌜ r ≡ misused ⌝ }
 {
     exit::misuse(b"usage: almanac year SYSTEM FIRST [LAST]\n")
 }
@@ -54,7 +55,7 @@ fn year_pages(count: usize) -> u32
 }
 
 fn help() -> u32
-    ensures { λ r. ⌜ Written r ⌝ }
+    ensures { λ r. ⌜ AnsweredOrFailed r ⌝ }
 {
     let text = b"almanac year SYSTEM FIRST [LAST]\n\
         almanac --help | --version\n\

@@ -3,7 +3,7 @@ ghost use mathlib.Core.Path.{_≡_};
 ghost use Prim.Native.Nat.{_+_, _≤_, min};
 ghost use lib.ListN.{length};
 ghost use Rattle.arguments.specs.Number.{most};
-ghost use Rattle.process.specs.Exit.{Written};
+ghost use Rattle.process.specs.Exit.{AnsweredOrFailed};
 ghost use Rattle.almanac_run.specs.Pages.{FilledWith};
 use pages::page;
 use process::exit;
@@ -52,7 +52,7 @@ fn fill(out: &mut [u8], system: u32, first: u32, count: u64) -> Filled
 // Buffer after buffer, and the exit status. A write that fails ends it.
 fn write_pages(out: &mut [u8], system: u32, first: u32, count: u64) -> u32
     requires { ⌜ 8192 ≤ length (now out) ⌝ }
-    ensures { λ r. ⌜ Written r ⌝ }
+    ensures { λ r. ⌜ AnsweredOrFailed r ⌝ }
 {
     let mut year = first;
     let mut left = count;
@@ -70,7 +70,7 @@ fn write_pages(out: &mut [u8], system: u32, first: u32, count: u64) -> u32
 
 // The pages of so many years from the first on.
 pub(crate) fn pages(system: u32, first: u32, count: u64) -> u32
-    ensures { λ r. ⌜ Written r ⌝ }
+    ensures { λ r. ⌜ AnsweredOrFailed r ⌝ }
 {
     let mut buffer = io::large_buffer();
     write_pages(&mut buffer, system, first, count)

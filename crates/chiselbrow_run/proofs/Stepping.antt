@@ -1,11 +1,13 @@
 -- A step, from its turn.
-use Prim.Native.Nat.{ℕ, _+_, _≤_}
+use Prim.Native.Nat.{ℕ, _+_, _≤_, _<_}
 use mathlib.Core.Path.{_≡_, refl, ap, ap₂, sym, subst, _∙_}
-use mathlib.Core.Bool.{Bool, true, false, true≢false}
+use mathlib.Core.Bool.{Bool, true, false, true≢false, cond, not}
 use mathlib.Core.List.{List, [], _++_, append-assoc}
 use native.Mathlib.Omega.{arith}
 use lib.ListN.{length, take, drop, length-append}
 use lib.Dec.{eqb}
+use borrow.Author.Tests.{not-false, ne-eqb}
+use Rattle.process.specs.Exit.{answered, failed}
 use lib.Seq.{take-add, take-at, drop-at, take-append-le, length-take-le}
 use Rattle.chiselbrow_run.specs.declared.turn.Turn.{Turn}
 use Rattle.chiselbrow_run.specs.declared.Step.{Step}
@@ -23,6 +25,7 @@ failed-step {r} ended s after is =
       left-is = λ e. absurd (never e);
       read-is = λ e. absurd (never e);
       rest-in-front = λ e. absurd (never e);
+      left-short = λ e. omega (arith, ap (λ x. x .left) is);
     }
 
 -- One whose lines were written leaves what its turn does; the turn has the front of the buffer.
@@ -41,6 +44,7 @@ written-step {ended} {s} {kept} {before} {out} {t} tail turned =
       left-is = λ e. left-is;
       read-is = λ e. ap (λ x. x .read) (turned .is);
       rest-in-front = λ e. ap₂ take left-is whole ∙ take-at rest (drop (length rest) s ++ tail) (length rest) refl;
+      left-short = turned .left-short;
     }
 
 -- A step that reads, from what the read left in the rest of the buffer.
@@ -48,12 +52,12 @@ pub read-failed : {r : Step} (kept after : List ℕ) → r ≡ record { failed =
     → ReadAndAnswered kept after r
 read-failed kept after is = record { got = []; stepped = failed-step true (kept ++ []) after is }
 
-pub read-step : {after : List ℕ} {r : Step} (kept count : ℕ) (input part tail : List ℕ) → kept ≤ length input → count ≤ length part
+pub read-step : {after : List ℕ} {r : Step} (kept count : ℕ) (input part tail : List ℕ) → kept < 64 → 64 ≤ length input → count ≤ length part
     → Stepped (eqb count 0) (take (kept + count) (take kept input ++ (part ++ tail))) after r
     → ReadAndAnswered (take kept input) after r
-read-step {after} {r} kept count input part tail h l stepped =
+read-step {after} {r} kept count input part tail short room l stepped =
     let front = take kept input in
-    let long = length-take-le kept input h in
+    let long = length-take-le kept input (omega arith) in
     let bytes : take (kept + count) (front ++ (part ++ tail)) ≡ front ++ take count part =
     take-add kept count (front ++ (part ++ tail))
     ∙ ap₂ (λ a b. a ++ take count b) (take-at front (part ++ tail) kept long) (drop-at front (part ++ tail) kept long)
@@ -64,3 +68,11 @@ read-step {after} {r} kept count input part tail h l stepped =
   where
     subst₂ : {e f : Bool} {s t : List ℕ} → e ≡ f → s ≡ t → Stepped e s after r → Stepped f t after r
     subst₂ {f = f} {s = s} p q x = subst (λ y. Stepped f y after r) q (subst (λ b. Stepped b s after r) p x)
+
+-- Where the run goes on, the next read has room.
+pub room-left : {kept after : List ℕ} {r : Step} → ReadAndAnswered kept after r → not (r .more) ≡ false → r .left < 64
+room-left read goes-on = read .stepped .left-short (not-false _ goes-on)
+
+-- A run that stops with bytes left has failed.
+pub stop-fails : (left : ℕ) → (left ≡ 0 → ⊥) → failed ≡ cond (eqb left 0) answered failed
+stop-fails left some = simp (ne-eqb left 0 some)

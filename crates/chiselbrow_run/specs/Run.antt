@@ -4,7 +4,7 @@ use mathlib.Core.Bool.{true, false, cond}
 use mathlib.Core.List.{List, [], _∷_, _++_}
 use Rattle.chiselbrow_run.specs.Turn.{restOf, stops, turnText}
 
--- What is left is kept in front of what the next read gives.
+-- What is left is kept in front of what the next read gives. A read gives some bytes; that it gives none is the end.
 unfoldable pub runOf : List ℕ → List (List ℕ) → List ℕ
 runOf kept [] = turnText true kept
 runOf kept (got ∷ reads) =

@@ -1,10 +1,11 @@
 // The run of the program chiselbrow. What it answers is in `lines`, and what it does between two calls of the system in
 // `turn`; here bytes are moved between that and the system.
 ghost use mathlib.Core.Path.{_≡_};
-ghost use mathlib.Core.Bool.{true, false};
-ghost use Prim.Native.Nat.{_≤_};
+ghost use mathlib.Core.Bool.{true, false, cond};
+ghost use Prim.Native.Nat.{_≤_, _<_};
+ghost use lib.Dec.{eqb};
 ghost use lib.ListN.{length, take};
-ghost use Rattle.process.specs.Exit.{Written, Ended};
+ghost use Rattle.process.specs.Exit.{answered, failed, AnsweredOrFailed, Ended};
 ghost use Rattle.chiselbrow_run.specs.Buffers.{Buffers};
 ghost use Rattle.chiselbrow_run.specs.Stepped.{Stepped, ReadAndAnswered};
 use arguments::options;
@@ -57,7 +58,7 @@ fn write_answer(input: &mut [u8], filled: usize, ended: bool, out: &mut [u8]) ->
 
 // Reads once after the bytes that were kept, and answers.
 fn read_and_answer(input: &mut [u8], kept: usize, out: &mut [u8]) -> Step
-    requires { ⌜ (kept ≤ length (now input)) × Buffers (now input) (now out) ⌝ }
+    requires { ⌜ (kept < 64) × Buffers (now input) (now out) ⌝ }
     ensures { λ r. ⌜ ReadAndAnswered (take kept (now (input .entry))) (now (input .exit)) r ⌝ }
 {
     let got = streams::read(&mut input[kept..]);
@@ -69,7 +70,7 @@ fn read_and_answer(input: &mut [u8], kept: usize, out: &mut [u8]) -> Step
 
 // The status of a run that stopped with so many bytes left, from the given one on.
 fn stopped(left: usize, offset: u64) -> u32
-    ensures { λ r. ⌜ Written r ⌝ }
+    ensures { λ r. ⌜ (r ≡ cond (eqb left 0) answered failed) × AnsweredOrFailed r ⌝ }
 {
     if left == 0 {
         return exit::ANSWERED;
@@ -86,7 +87,7 @@ fn stopped(left: usize, offset: u64) -> u32
 // Step after step. A proved loop has to end, so it counts its turns.
 fn convert_input(input: &mut [u8], out: &mut [u8]) -> u32
     requires { ⌜ Buffers (now input) (now out) ⌝ }
-    ensures { λ r. ⌜ Written r ⌝ }
+    ensures { λ r. ⌜ AnsweredOrFailed r ⌝ }
 {
     let mut kept = 0;
     let mut offset = 0;
@@ -107,7 +108,7 @@ fn convert_input(input: &mut [u8], out: &mut [u8]) -> u32
 }
 
 fn convert() -> u32
-    ensures { λ r. ⌜ Written r ⌝ }
+    ensures { λ r. ⌜ AnsweredOrFailed r ⌝ }
 {
     let mut input = [0u8; 32768];
     let mut out = [0u8; 524352];
@@ -115,7 +116,7 @@ fn convert() -> u32
 }
 
 fn help() -> u32
-    ensures { λ r. ⌜ Written r ⌝ }
+    ensures { λ r. ⌜ AnsweredOrFailed r ⌝ }
 {
     let text = b"chiselbrow [--help | --version] < records\n\
         \n\

@@ -38,7 +38,7 @@ framingWithin zero s = noRecord s
 framingWithin (suc most) s =
     cond (framed s) (recordThen (take (lengthField s) s) (framingWithin most (drop (lengthField s) s))) (noRecord s)
 
--- A record has four bytes or more, so that there are fewer of them than bytes.
+-- A record has four bytes or more, so that there are no more of them than bytes.
 abbrev pub framing : List ℕ → Framing
 framing s = framingWithin (length s) s
 

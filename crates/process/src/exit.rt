@@ -1,6 +1,6 @@
 // Exit statuses, with the words that go to standard error.
 ghost use mathlib.Core.Path.{_≡_};
-ghost use Rattle.process.specs.Exit.{answered, failed, misused, Written};
+ghost use Rattle.process.specs.Exit.{answered, failed, misused, AnsweredOrFailed};
 use crate::streams;
 use libc::STDERR_FILENO;
 
@@ -29,7 +29,7 @@ pub fn misuse(usage: &[u8]) -> u32
 
 // Writes a text to standard output, `what` naming that where it fails.
 pub fn reply(text: &[u8], what: &[u8]) -> u32
-    ensures { λ r. ⌜ Written r ⌝ }
+    ensures { λ r. ⌜ AnsweredOrFailed r ⌝ }
 {
     if streams::write(text) {
         return ANSWERED;
@@ -39,7 +39,7 @@ pub fn reply(text: &[u8], what: &[u8]) -> u32
 
 // Writes a program's name and version to standard output.
 pub fn reply_version(program: &[u8], version: &[u8], what: &[u8]) -> u32
-    ensures { λ r. ⌜ Written r ⌝ }
+    ensures { λ r. ⌜ AnsweredOrFailed r ⌝ }
 {
     if streams::write(program)
         && streams::write(b" ")

@@ -1,13 +1,15 @@
-use Prim.Native.Nat.{_≤_}
+use Prim.Native.Nat.{_<_}
+use native.Mathlib.Omega.{arith}
 use mathlib.Core.Path.{_≡_}
 use lib.ListN.{length}
+use Rattle.chiselbrow_run.proofs.Stepping.{room-left}
 use borrow.Author.Needs.{needs}
 use Rattle.chiselbrow_run.proofs.convert_input.Statement.{statement}
 use Rattle.chiselbrow_run.proofs.convert_input.Tie as tie
 
 abbrev Inv-loop : tie.InvT-loop
 Inv-loop input₀ out₀ kept₀ offset₀ turns₀ input out kept offset turns =
-    (length input ≡ length input₀) × (length out ≡ length out₀) × (kept ≤ length input)
+    (length input ≡ length input₀) × (length out ≡ length out₀) × (kept < 64)
 
 abbrev μ-loop : tie.MeasureT-loop
 μ-loop input₀ out₀ kept₀ offset₀ turns₀ input out kept offset turns = turns
@@ -49,7 +51,7 @@ loop-less : tie.Need-loop-less Inv-loop μ-loop
 loop-less c = search needs
 
 loop-again : tie.Need-loop-again Inv-loop μ-loop
-loop-again c = search needs
+loop-again c = (omega arith, omega arith, search room-left)
 
 same-length-5 : tie.Need-same-length-5 Inv-loop μ-loop
 same-length-5 c = search needs
