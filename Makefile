@@ -33,15 +33,16 @@ MAKEFLAGS += --no-print-directory
 
 .PHONY: all test-tools test bench sky run install clean
 
-# The library as an archive and shared, the programs and the example host.
-all: $(library) $(shared) $(programs) build/store
+# The programs, the library as an archive and shared, and the example host. The programs come first: what they stand on
+# is proved on all cores.
+all: $(programs) $(library) $(shared) build/store
 
 # What only the tests need.
 test-tools: $(test_tools)
 
-# Every test, and last the gate.
+# Every test, two at a time, and last the gate.
 test: all test-tools
-	@for test in $(tests); do $$test || { echo "$$test failed" >&2; exit 1; }; done
+	@printf '%s\n' $(tests) | xargs -P 2 -I % sh -c '% || { echo "% failed" >&2; exit 255; }'
 	@rt ci
 
 # The storing step and the program, beside C written by hand.
