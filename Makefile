@@ -20,10 +20,10 @@ programs = build/chiselbrow build/almanac
 system := $(dir $(shell readlink -f "$$(command -v rt)"))../lib/libos_c.a
 test_tools = build/independent build/store_check build/null_check build/builders build/incident build/feed build/faults.so
 bench_tools = build/bench build/c_program
-tests = tests/cases.sh tests/every_day.sh tests/damaged.sh build/null_check build/builders build/incident \
-        tests/header.sh tests/host.sh tests/shared.sh tests/shared.py tests/every_year.sh tests/program.sh \
-        tests/pipes.sh tests/arguments.sh tests/descriptors.sh tests/faults.sh tests/manual.sh tests/install.sh \
-        tests/mixups.sh
+# The longest first, so that two at a time end together.
+tests = tests/mixups.sh tests/program.sh tests/every_day.sh tests/every_year.sh tests/pipes.sh tests/damaged.sh \
+        tests/faults.sh tests/cases.sh tests/descriptors.sh tests/arguments.sh tests/manual.sh tests/install.sh \
+        tests/shared.sh tests/shared.py tests/header.sh tests/host.sh build/null_check build/builders build/incident
 crates := crates.txt $(shell find crates -name must-fail -prune -o -type f -print)
 
 # Two runs of rt at a time would share target/.
