@@ -1,0 +1,110 @@
+-- A comparison is refused by its table, and otherwise both of its years are in scope.
+use Prim.Native.Nat.{ℕ, _<_}
+use mathlib.Core.Path.{_≡_, refl, sym, ap, ap₂, _∙_}
+use mathlib.Core.Logic.{inl, inr, ⊎-elim}
+use mathlib.Core.Bool.{Bool, true, false, cond}
+use native.Mathlib.Decide.{ℕ-discrete}
+use native.Mathlib.Omega.{arith}
+use borrow.Author.Tests.{eq-eqb, ne-eqb}
+use Rattle.calendar.proofs.Rising.{by-order}
+use Rattle.reckoning.specs.declared.data.Year.{Year}
+use Rattle.reckoning.specs.RefusalNumbers.{SYSTEM, YEAR}
+use Rattle.reckoning.specs.ComputedRefusals.{Rule, _if_, wrongSystem, wrongYear, yearRefusal}
+use Rattle.reckoning.specs.Scope.{SystemInScope, InScope}
+use Rattle.reckoning.specs.WordedRefusals.{FirstOf}
+use Rattle.reckoning.specs.Requests.{yearOf}
+use Rattle.reckoning.proofs.RefusalCases.{accepted, in-scope, by-scope}
+use Rattle.reckoning.proofs.RefusedRequests.{year-blank}
+use Rattle.reckoning.proofs.MonthsRight.{year-holds}
+use Rattle.comparison.specs.declared.data.Comparison.{Comparison}
+use Rattle.comparison.specs.Comparisons.{comparisonRefusal, listing, noComparison, comparisonOf}
+use Rattle.comparison.specs.WhereSystemsDiffer.{comparisonRows}
+
+-- A year's value carries its refusal.
+pub year-carries : (system year : ℕ) → (yearOf system year) .refusal ≡ yearRefusal system year
+year-carries system year =
+    by-order 0 (yearRefusal system year)
+    (λ some. ap (λ v. v .refusal) (year-blank system year (λ z. omega arith)))
+    (λ none.
+    let zero-refusal : yearRefusal system year ≡ 0 = omega arith in
+    (year-holds system year (accepted system year zero-refusal)) .accepted ∙ sym zero-refusal)
+
+-- Whether a rule applies.
+abbrev pub applies : Rule → Bool
+applies (number if b) = b
+
+-- The first system is judged first, and then the second by itself.
+by-first-system : (wrong late : Bool) (rest : ℕ) → cond wrong SYSTEM (cond late YEAR 0) ≡ SYSTEM → cond wrong SYSTEM rest ≡ SYSTEM
+by-first-system true late rest e = refl
+by-first-system false true rest e = absurd (omega arith)
+by-first-system false false rest e = absurd (omega arith)
+
+past-first-system : (wrong late : Bool) (rest : ℕ) → (cond wrong SYSTEM (cond late YEAR 0) ≡ SYSTEM → ⊥) → cond wrong SYSTEM rest ≡ rest
+past-first-system true late rest h = absurd (h refl)
+past-first-system false late rest h = refl
+
+module _ (first second year : ℕ) where
+  pub first-wrong : yearRefusal first year ≡ SYSTEM → comparisonRefusal first second year ≡ SYSTEM
+  unfolding comparisonRefusal yearRefusal
+  first-wrong e =
+      by-first-system (applies (wrongSystem first)) (applies (wrongYear year)) (yearRefusal second year) e
+
+  pub first-right : (yearRefusal first year ≡ SYSTEM → ⊥) → comparisonRefusal first second year ≡ yearRefusal second year
+  unfolding comparisonRefusal yearRefusal
+  first-right h =
+      past-first-system (applies (wrongSystem first)) (applies (wrongYear year)) (yearRefusal second year) h
+
+  both-in-scope : InScope first year → comparisonRefusal first second year ≡ yearRefusal second year
+  both-in-scope s = first-right (λ e. omega (arith, in-scope first year s))
+
+  pub refusal-first : FirstOf (comparisonRows first second year) (comparisonRefusal first second year)
+  refusal-first =
+      by-scope first year
+      (λ no-system e. inl (first-wrong e, inl no-system))
+      (λ system-inside no-year e.
+      let judged = first-right (λ f. omega arith) in
+      by-scope second year
+      (λ no-system f. inl (judged ∙ f, inr no-system))
+      (λ other-inside out f. inr (⊎-elim (λ w. w system-inside) (λ w. w other-inside), inl (judged ∙ f, out)))
+      (λ s. absurd (no-year (s .year-inside))))
+      (λ s.
+      let judged = both-in-scope s in
+      by-scope second year
+      (λ no-system f. inl (judged ∙ f, inr no-system))
+      (λ other-inside out f. absurd (out (s .year-inside)))
+      (λ t.
+      inr (
+        ⊎-elim (λ w. w (s .system-inside)) (λ w. w (t .system-inside)),
+        inr (λ out. out (s .year-inside), judged ∙ in-scope second year t),
+      )))
+
+  pub compared : InScope first year → InScope second year → comparisonRefusal first second year ≡ 0
+  compared s t = both-in-scope s ∙ in-scope second year t
+
+-- The answer, from the years as they are asked.
+module _ {a : Year} (first second year : ℕ) (a-is : a ≡ yearOf first year) where
+  refused-as : {v : Comparison} {number : ℕ} → comparisonRefusal first second year ≡ number → (number ≡ 0 → ⊥) → v ≡ noComparison number
+      → v ≡ comparisonOf first second year
+  unfolding comparisonOf
+  refused-as {number = number} e some is =
+      is ∙ ap noComparison (sym e) ∙ simp (ne-eqb (comparisonRefusal first second year) 0 (λ z. some (sym e ∙ z)))
+
+  a-refusal : a .refusal ≡ yearRefusal first year
+  a-refusal = ap (λ m. m .refusal) a-is ∙ year-carries first year
+
+  pub wrong-first : {v : Comparison} → a .refusal ≡ SYSTEM → v ≡ noComparison SYSTEM → v ≡ comparisonOf first second year
+  wrong-first wrong is = refused-as (first-wrong first second year (sym a-refusal ∙ wrong)) (λ z. omega arith) is
+
+  module _ {b : Year} (right : a .refusal ≡ SYSTEM → ⊥) (b-is : b ≡ yearOf second year) where
+    judged : comparisonRefusal first second year ≡ b .refusal
+    judged =
+        first-right first second year (λ e. right (a-refusal ∙ e))
+        ∙ sym (ap (λ m. m .refusal) b-is ∙ year-carries second year)
+
+    pub wrong-second : {v : Comparison} → (b .refusal ≡ 0 → ⊥) → v ≡ noComparison (b .refusal) → v ≡ comparisonOf first second year
+    wrong-second some is = refused-as judged some is
+
+    pub both-right : {v : Comparison} → b .refusal ≡ 0 → v ≡ listing a b → v ≡ comparisonOf first second year
+    unfolding comparisonOf
+    both-right none is =
+        is ∙ ap₂ listing a-is b-is ∙ simp (eq-eqb (comparisonRefusal first second year) 0 (judged ∙ none))
