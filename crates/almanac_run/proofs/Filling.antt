@@ -8,11 +8,11 @@ use lib.ListN.{length}
 use Rattle.calendar.proofs.Rising.{by-order}
 use Rattle.text.specs.Put.{Put}
 use Rattle.text.specs.Wrote.{Wrote}
-use Rattle.text.proofs.Writing.{wrote-as}
+use Rattle.text.proofs.Writing.{wrote-as, wrote-no-texts, wrote-one-more}
 use Rattle.text.proofs.Putting.{put-wrote}
 use Rattle.arguments.specs.Number.{most}
-use Rattle.pages.specs.Page.{textsUpTo, pageOf}
-use Rattle.pages.proofs.PageText.{wrote-no-texts, wrote-one-more}
+use Rattle.pages.specs.Page.{pageOf}
+use Rattle.text.specs.Piece.{textsUpTo}
 use Rattle.almanac_run.specs.declared.range.Filled.{Filled}
 use Rattle.almanac_run.specs.Pages.{yearAfter, pagesOf, FilledWith}
 

@@ -7,7 +7,8 @@ use lib.ListN.{length}
 use Rattle.text.specs.Wrote.{Wrote}
 use Rattle.almanac_run.specs.declared.range.Filled.{Filled}
 use Rattle.arguments.specs.Number.{most}
-use Rattle.pages.specs.Page.{textsUpTo, pageOf}
+use Rattle.pages.specs.Page.{pageOf}
+use Rattle.text.specs.Piece.{textsUpTo}
 
 -- The year i years after the first, as a number is told.
 abbrev pub yearAfter : ℕ → ℕ → ℕ

@@ -1,5 +1,5 @@
 -- Place by place, the values of two years say of their months what the reckoning says.
-use Prim.Native.Nat.{ℕ, _+_, _-_, _≤_, _<_}
+use Prim.Native.Nat.{ℕ, _+_, _-_, _^_, _≤_, _<_}
 use mathlib.Core.Path.{_≡_, refl, sym, subst, ap, _∙_}
 use mathlib.Core.Logic.{_⊎_, inl, inr, ⊎-elim}
 use mathlib.Core.Bool.{Bool, true, false, true≢false, not, cond, _&&_}
@@ -21,6 +21,7 @@ use Rattle.reckoning.specs.declared.data.Year.{Year}
 use Rattle.reckoning.specs.Requests.{yearOf}
 use Rattle.reckoning.specs.Scope.{InScope}
 use Rattle.reckoning.specs.YearValue.{headIn, numberIn, leapIn, ListsMonths, Tiled}
+use Rattle.reckoning.proofs.ScopeInRegister.{year-in-register}
 use Rattle.reckoning.proofs.MonthsRight.{year-holds, year-tiled}
 use Rattle.comparison.specs.declared.data.Difference.{Difference}
 use Rattle.comparison.specs.declared.data.Difference.the-variants.{Days, FirstLacks, SecondLacks}
@@ -87,6 +88,16 @@ module _ (system year : ℕ) (s : InScope system year) where
 
   pub one-head : (place : ℕ) (m n : MonthAt system year place) → m .head ≡ n .head
   one-head place m n = (agrees place m) .head-is ∙ sym ((agrees place n) .head-is)
+
+  -- a head is of 31 bits
+  pub head-small : (place : ℕ) (m : MonthAt system year place) → m .head < 2 ^ 31
+  head-small place m =
+      let at = agrees place m in
+      let first = span-first c (consistent system) (lists .span) in
+      let next = span-next c (consistent system) (lists .span) in
+      let k = lists .span .first + (place - 1) in
+      let r = (year-in-register system year (s .year-inside)) .head k (omega arith) (omega (arith, at .within, lists .count)) in
+      omega (arith, at .head-is, lists .head (place - 1) (at .within))
 
   pub no-month-at : (i : ℕ) → months .count ≤ i → NoMonthAt system year (i + 1)
   no-month-at i h m = omega (arith, (agrees (i + 1) m) .within)

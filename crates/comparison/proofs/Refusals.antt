@@ -5,7 +5,9 @@ use mathlib.Core.Logic.{inl, inr, ⊎-elim}
 use mathlib.Core.Bool.{Bool, true, false, cond}
 use native.Mathlib.Decide.{ℕ-discrete}
 use native.Mathlib.Omega.{arith}
-use borrow.Author.Tests.{eq-eqb, ne-eqb}
+use borrow.Author.Tests.{eq-eqb, ne-eqb, eqb-true}
+use lib.Dec.{eqb}
+use Rattle.calendar.proofs.Cases.{by-bool}
 use Rattle.calendar.proofs.Rising.{by-order}
 use Rattle.reckoning.specs.declared.data.Year.{Year}
 use Rattle.reckoning.specs.RefusalNumbers.{SYSTEM, YEAR}
@@ -80,6 +82,24 @@ module _ (first second year : ℕ) where
 
   pub compared : InScope first year → InScope second year → comparisonRefusal first second year ≡ 0
   compared s t = both-in-scope s ∙ in-scope second year t
+
+  -- A comparison that carries no refusal is of two systems and a year in scope.
+  pub carries : (comparisonOf first second year) .refusal ≡ comparisonRefusal first second year
+  unfolding comparisonOf listing
+  carries =
+      let refusal = comparisonRefusal first second year in
+      by-bool (eqb refusal 0) (λ e. simp e (sym (eqb-true refusal 0 e))) (λ e. simp e)
+
+  pub first-in-scope : comparisonRefusal first second year ≡ 0 → InScope first year
+  first-in-scope none =
+      by-scope first year
+      (λ no-system e. absurd (omega (arith, first-wrong e)))
+      (λ system-inside no-year e.
+      absurd (no-year ((accepted second year (sym (first-right (λ f. omega arith)) ∙ none)) .year-inside)))
+      (λ s. s)
+
+  pub second-in-scope : comparisonRefusal first second year ≡ 0 → InScope second year
+  second-in-scope none = accepted second year (sym (both-in-scope (first-in-scope none)) ∙ none)
 
 -- The answer, from the years as they are asked.
 module _ {a : Year} (first second year : ℕ) (a-is : a ≡ yearOf first year) where

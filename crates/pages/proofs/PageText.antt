@@ -3,7 +3,6 @@ use Prim.Native.Nat.{ℕ, _+_, _*_, _-_, _≤_, _<_}
 use mathlib.Core.Path.{_≡_, ap, ap₂, subst, sym, _∙_}
 use mathlib.Core.Bool.{cond}
 use mathlib.Core.List.{List, [], _∷_, _++_}
-use native.Mathlib.Numerals.{add-one}
 use native.Mathlib.Omega.{arith}
 use lib.Dec.{eqb}
 use lib.ListN.{length}
@@ -16,24 +15,13 @@ use Rattle.reckoning.specs.declared.data.Solstice.{Solstice}
 use Rattle.reckoning.specs.declared.data.Year.{Year}
 use Rattle.reckoning.specs.Requests.{solsticeOf, qiOf, yearOf, sheetOf, daysOf}
 use Rattle.reckoning.specs.YearValue.{headIn, numberIn, leapIn}
-use Rattle.text.specs.Piece.{word, year, month, numbered, line, refusedLine}
+use Rattle.text.specs.Piece.{word, year, month, numbered, line, refusedLine, textsUpTo}
 use Rattle.text.specs.Put.{Put}
 use Rattle.text.specs.Wrote.{Wrote}
-use Rattle.text.proofs.Writing.{wrote-as, wrote-none, wrote-then}
+use Rattle.text.proofs.Writing.{wrote-as, wrote-then, wrote-one-more}
 use Rattle.text.proofs.Putting.{Puts, put-wrote}
-use Rattle.pages.specs.Page.{textsUpTo, yearLine, solsticeLine, qiLine, qiLines, solarLines, monthLine, monthLines, nextLine}
+use Rattle.pages.specs.Page.{yearLine, solsticeLine, qiLine, qiLines, solarLines, monthLine, monthLines, nextLine}
 use Rattle.pages.specs.Page.{lunarLines, nameAt, sheetNames, namesLine, qiAt, monthAt, yearLines, pageOf}
-
--- Texts in order: none yet, and one more.
-module _ (text : ℕ → List ℕ) where
-  pub wrote-no-texts : {b : List ℕ} {at : ℕ} → at ≤ length b → Wrote b at (textsUpTo text 0) b at
-  unfolding textsUpTo
-  wrote-no-texts {b} {at} h = wrote-none b at h
-
-  pub wrote-one-more : {b m a : List ℕ} {at p e : ℕ} (n : ℕ)
-      → Wrote b at (textsUpTo text n) m p → Wrote m p (text n) a e → Wrote b at (textsUpTo text (n + 1)) a e
-  unfolding textsUpTo
-  wrote-one-more n w v = rw (add-one n) (wrote-then w v)
 
 -- A loop's texts, one more and all.
 pub wrote-qi-more : {b m a : List ℕ} {at p e : ℕ} {qi : Qi} (system n i : ℕ) → qi ≡ qiOf system n i

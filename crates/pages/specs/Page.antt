@@ -1,5 +1,5 @@
 -- The page that the almanac prints for a year: its lines, as bytes.
-use Prim.Native.Nat.{ℕ, zero, suc, _+_, _-_}
+use Prim.Native.Nat.{ℕ, _+_, _-_}
 use mathlib.Core.Bool.{cond}
 use mathlib.Core.List.{List, [], _∷_, _++_}
 use lib.Dec.{eqb}
@@ -11,12 +11,7 @@ use Rattle.reckoning.specs.declared.data.Solstice.{Solstice}
 use Rattle.reckoning.specs.declared.data.Year.{Year}
 use Rattle.reckoning.specs.Requests.{solsticeOf, qiOf, yearOf, sheetOf, daysOf}
 use Rattle.reckoning.specs.YearValue.{headIn, numberIn, leapIn}
-use Rattle.text.specs.Piece.{word, field, year, month, numbered, line, refusedLine}
-
--- The texts 0 to n - 1, in order.
-unfoldable pub textsUpTo : (ℕ → List ℕ) → ℕ → List ℕ
-textsUpTo text zero = []
-textsUpTo text (suc n) = textsUpTo text n ++ text n
+use Rattle.text.specs.Piece.{word, field, year, month, numbered, line, refusedLine, textsUpTo}
 
 -- "year ", then letter and year, how many months and days.
 unfoldable pub yearLine : ℕ → ℕ → ℕ → ℕ → List ℕ

@@ -12,7 +12,7 @@ use lib.Seq.{paste, paste-suc, length-paste}
 use borrow.Author.Tests.{eq-eqb, ne-eqb}
 use Rattle.calendar.proofs.Rising.{by-order}
 use Rattle.text.specs.Decimal.{decimal}
-use Rattle.text.specs.Piece.{word, field, letterOf, year, star, month, numbered, fields}
+use Rattle.text.specs.Piece.{word, field, letterOf, year, star, month, numbered, fields, textsUpTo}
 use Rattle.text.specs.Wrote.{Wrote}
 
 -- One byte.
@@ -165,3 +165,14 @@ wrote-copied {o} b at text i e h all =
       fits = omega arith;
       same-length = ap length whole ∙ length-paste b at text (length text) h (omega arith);
     }
+
+-- Texts in order: none yet, and one more.
+module _ (text : ℕ → List ℕ) where
+  pub wrote-no-texts : {b : List ℕ} {at : ℕ} → at ≤ length b → Wrote b at (textsUpTo text 0) b at
+  unfolding textsUpTo
+  wrote-no-texts {b} {at} h = wrote-none b at h
+
+  pub wrote-one-more : {b m a : List ℕ} {at p e : ℕ} (n : ℕ)
+      → Wrote b at (textsUpTo text n) m p → Wrote m p (text n) a e → Wrote b at (textsUpTo text (n + 1)) a e
+  unfolding textsUpTo
+  wrote-one-more n w v = rw (add-one n) (wrote-then w v)

@@ -1,5 +1,5 @@
 -- The pieces that lines are made of, as bytes: 32 is ' ', 42 '*', 10 ends a line.
-use Prim.Native.Nat.{ℕ}
+use Prim.Native.Nat.{ℕ, zero, suc}
 use mathlib.Core.Bool.{cond}
 use mathlib.Core.List.{List, [], _∷_, _++_}
 use lib.Dec.{eqb}
@@ -48,3 +48,8 @@ month number leap = field number ++ star leap
 -- "refused" and the number.
 abbrev pub refusedLine : ℕ → List ℕ
 refusedLine number = line (114 ∷ 101 ∷ 102 ∷ 117 ∷ 115 ∷ 101 ∷ 100 ∷ []) (number ∷ [])
+
+-- The texts 0 to n - 1, in order.
+unfoldable pub textsUpTo : (ℕ → List ℕ) → ℕ → List ℕ
+textsUpTo text zero = []
+textsUpTo text (suc n) = textsUpTo text n ++ text n

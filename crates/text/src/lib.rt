@@ -5,7 +5,8 @@ ghost use mathlib.Core.Path.{_≡_};
 ghost use Prim.Native.Nat.{_+_, _*_, _^_, _<_};
 ghost use lib.Dec.{ltb};
 ghost use lib.ListN.{length};
-ghost use Rattle.text.specs.Piece.{word, field, year, month, numbered, line, refusedLine};
+ghost use Rattle.text.specs.Decimal.{decimal};
+ghost use Rattle.text.specs.Piece.{word, field, letterOf, year, month, numbered, line, refusedLine};
 ghost use Rattle.text.specs.Put.{Put};
 
 mod put;
@@ -35,6 +36,16 @@ pub fn word(out: &mut [u8], at: usize, bytes: &[u8]) -> usize
     put::word(out, at, bytes)
 }
 
+// A number, where there is room for ten digits.
+pub fn number(out: &mut [u8], at: usize, n: u32) -> usize
+    ensures { λ r. ⌜ Put (now (out .entry)) at 10 (decimal n) (now (out .exit)) r ⌝ }
+{
+    if is_short(out.len(), at, 10) {
+        return at;
+    }
+    put::number(out, at, n)
+}
+
 // A space and a number, where there is room for ten digits.
 pub fn field(out: &mut [u8], at: usize, n: u32) -> usize
     ensures { λ r. ⌜ Put (now (out .entry)) at 11 (field n) (now (out .exit)) r ⌝ }
@@ -45,7 +56,20 @@ pub fn field(out: &mut [u8], at: usize, n: u32) -> usize
     put::field(out, at, n)
 }
 
-// A system's letter, a space and a year. A number that is no system's has the letter '?'.
+// The byte of a system's letter. A number that is no system's has '?'.
+pub fn letter_of(system: u32) -> u8
+    ensures { λ r. ⌜ r ≡ letterOf system ⌝ }
+{
+    if system == 1 {
+        return b'G';
+    }
+    if system == 2 {
+        return b'J';
+    }
+    b'?'
+}
+
+// A system's letter, a space and a year.
 pub fn year(out: &mut [u8], at: usize, system: u32, n: u32) -> usize
     ensures { λ r. ⌜ Put (now (out .entry)) at 12 (year system n) (now (out .exit)) r ⌝ }
 {

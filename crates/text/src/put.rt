@@ -6,8 +6,9 @@ ghost use mathlib.Core.List.{[], _∷_};
 ghost use lib.Dec.{eqb, ltb};
 ghost use lib.ListN.{length};
 ghost use Rattle.text.specs.Decimal.{twoDigits, fourDigits, decimal};
-ghost use Rattle.text.specs.Piece.{word, field, letterOf, year, star, month, numbered, fields, line};
+ghost use Rattle.text.specs.Piece.{word, field, year, star, month, numbered, fields, line};
 ghost use Rattle.text.specs.Wrote.{Wrote};
+use crate::letter_of;
 
 fn byte(out: &mut [u8], at: usize, b: u8) -> usize
     requires { ⌜ at + 1 ≤ length (now out) ⌝ }
@@ -96,7 +97,7 @@ fn from_100(out: &mut [u8], at: usize, n: u32) -> usize
     nine_or_ten_digits(out, at, n)
 }
 
-fn number(out: &mut [u8], at: usize, n: u32) -> usize
+pub(crate) fn number(out: &mut [u8], at: usize, n: u32) -> usize
     requires { ⌜ at + 10 ≤ length (now out) ⌝ }
     ensures { λ r. ⌜ Wrote (now (out .entry)) at (decimal n) (now (out .exit)) r × (r ≤ at + 10) ⌝ }
 {
@@ -125,19 +126,6 @@ fn small_field(out: &mut [u8], at: usize, n: u32) -> usize
         return below_100(out, next, n);
     }
     field(out, at, n)
-}
-
-// The byte of a system's letter.
-fn letter_of(system: u32) -> u8
-    ensures { λ r. ⌜ r ≡ letterOf system ⌝ }
-{
-    if system == 1 {
-        return b'G';
-    }
-    if system == 2 {
-        return b'J';
-    }
-    b'?'
 }
 
 // A system's letter and a year.

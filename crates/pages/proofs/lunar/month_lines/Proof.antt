@@ -2,8 +2,10 @@ use Prim.Native.Nat.{_+_, _*_, _-_, _≤_}
 use mathlib.Core.Path.{_≡_}
 use native.Mathlib.Omega.{arith}
 use Rattle.text.specs.Wrote.{Wrote}
-use Rattle.pages.specs.Page.{textsUpTo, monthAt}
-use Rattle.pages.proofs.PageText.{wrote-no-texts, wrote-month-more, wrote-month-lines}
+use Rattle.text.specs.Piece.{textsUpTo}
+use Rattle.pages.specs.Page.{monthAt}
+use Rattle.text.proofs.Writing.{wrote-no-texts}
+use Rattle.pages.proofs.PageText.{wrote-month-more, wrote-month-lines}
 use borrow.Author.Needs.{needs}
 use Rattle.pages.proofs.lunar.month_lines.Statement.{statement}
 use Rattle.pages.proofs.lunar.month_lines.Tie as tie

@@ -1,8 +1,10 @@
 use Prim.Native.Nat.{_+_, _*_, _-_, _≤_}
 use native.Mathlib.Omega.{arith}
 use Rattle.text.specs.Wrote.{Wrote}
-use Rattle.pages.specs.Page.{textsUpTo, qiAt}
-use Rattle.pages.proofs.PageText.{wrote-no-texts, wrote-qi-more, wrote-qi-lines}
+use Rattle.text.specs.Piece.{textsUpTo}
+use Rattle.pages.specs.Page.{qiAt}
+use Rattle.text.proofs.Writing.{wrote-no-texts}
+use Rattle.pages.proofs.PageText.{wrote-qi-more, wrote-qi-lines}
 use borrow.Author.Needs.{needs}
 use Rattle.pages.proofs.solar.qi_lines.Statement.{statement}
 use Rattle.pages.proofs.solar.qi_lines.Tie as tie

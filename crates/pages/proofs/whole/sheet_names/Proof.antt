@@ -2,8 +2,10 @@ use Prim.Native.Nat.{_+_, _*_, _-_, _≤_}
 use mathlib.Core.Path.{_≡_}
 use native.Mathlib.Omega.{arith}
 use Rattle.text.specs.Wrote.{Wrote}
-use Rattle.pages.specs.Page.{textsUpTo, nameAt}
-use Rattle.pages.proofs.PageText.{wrote-no-texts, wrote-name-more, wrote-sheet-names}
+use Rattle.text.specs.Piece.{textsUpTo}
+use Rattle.pages.specs.Page.{nameAt}
+use Rattle.text.proofs.Writing.{wrote-no-texts}
+use Rattle.pages.proofs.PageText.{wrote-name-more, wrote-sheet-names}
 use borrow.Author.Needs.{needs}
 use Rattle.pages.proofs.whole.sheet_names.Statement.{statement}
 use Rattle.pages.proofs.whole.sheet_names.Tie as tie

@@ -1,6 +1,6 @@
 use borrow.Author.Tests.{eq-eqb, ne-eqb}
-use Rattle.text.proofs.put.letter_of.Statement.{statement}
-use Rattle.text.proofs.put.letter_of.Tie as tie
+use Rattle.text.proofs.letter_of.Statement.{statement}
+use Rattle.text.proofs.letter_of.Tie as tie
 
 returns : tie.Need-returns
 returns c = simp (eq-eqb _ _ (c .if1 .taken))

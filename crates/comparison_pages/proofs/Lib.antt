@@ -1,0 +1,9 @@
+-- Laws that serve several functions.
+-- A signed number of days by its sign and its size.
+pub mod SignedDays
+-- The line of a place from its pieces.
+pub mod PlaceText
+-- The page from its lines.
+pub mod PageText
+-- Places that can be told.
+pub mod PlacesTold

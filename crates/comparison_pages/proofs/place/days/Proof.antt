@@ -1,0 +1,47 @@
+use native.Mathlib.Omega.{arith}
+use Rattle.text.proofs.Putting.{all-put, put-then, put-last}
+use Rattle.comparison_pages.proofs.SignedDays.{put-negative, put-other}
+use borrow.Author.Needs.{needs}
+use Rattle.comparison_pages.proofs.place.days.Statement.{statement}
+use Rattle.comparison_pages.proofs.place.days.Tie as tie
+
+size-of-requires : tie.Need-size-of-requires
+size-of-requires c κs = search needs
+
+slice-aggregate-word : tie.Need-slice-aggregate-word
+slice-aggregate-word c = search needs
+
+word-requires : tie.Need-word-requires
+word-requires c κs = search needs
+
+number-requires : tie.Need-number-requires
+number-requires c κs = search needs
+
+same-length : tie.Need-same-length
+same-length c = search needs
+
+returns : tie.Need-returns
+returns c = all-put (search (put-negative, put-then, put-last)) (omega arith)
+
+field-requires : tie.Need-field-requires
+field-requires c κs = search needs
+
+same-length-2 : tie.Need-same-length-2
+same-length-2 c = search needs
+
+returns-2 : tie.Need-returns-2
+returns-2 c = all-put (search (put-other, put-last)) (omega arith)
+
+pub days-spec : {M : Type 1} → statement M
+days-spec =
+    tie.close
+    (tie.spec
+    size-of-requires
+    slice-aggregate-word
+    word-requires
+    number-requires
+    same-length
+    returns
+    field-requires
+    same-length-2
+    returns-2)
