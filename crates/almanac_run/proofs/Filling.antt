@@ -6,52 +6,49 @@ use mathlib.Core.List.{List}
 use native.Mathlib.Omega.{arith}
 use lib.ListN.{length}
 use Rattle.calendar.proofs.Rising.{by-order}
-use Rattle.text.specs.Put.{Put}
 use Rattle.text.specs.Wrote.{Wrote}
 use Rattle.text.proofs.Writing.{wrote-as, wrote-no-texts, wrote-one-more}
-use Rattle.text.proofs.Putting.{put-wrote}
 use Rattle.arguments.specs.Number.{most}
-use Rattle.pages.specs.Page.{pageOf}
 use Rattle.text.specs.Piece.{textsUpTo}
 use Rattle.almanac_run.specs.declared.range.Filled.{Filled}
-use Rattle.almanac_run.specs.Pages.{yearAfter, pagesOf, FilledWith}
+use Rattle.almanac_run.specs.declared.range.Request.{Request}
+use Rattle.almanac_run.specs.Pages.{requestedPage, yearAfter, pagesOf, FilledWith}
 
 -- So many pages are there; the year after them is next.
-pub record Filling (system first : ℕ) (before out : List ℕ) (pages year end : ℕ) : Type 0 where
-  pub text : Wrote before 0 (pagesOf system first pages) out end
+pub record Filling (request : Request) (first : ℕ) (before out : List ℕ) (pages year end : ℕ) : Type 0 where
+  pub text : Wrote before 0 (pagesOf request first pages) out end
   pub year-after : year ≡ yearAfter first pages
-  pub each-had-room : (n : ℕ) → n < pages → length (pagesOf system first n) + 8192 ≤ length before
+  pub each-had-room : (n : ℕ) → n < pages → length (pagesOf request first n) + 8192 ≤ length before
 
-pub filling-starts : (system first : ℕ) (before : List ℕ) → first ≤ most → Filling system first before before 0 first 0
-filling-starts system first before h =
+pub filling-starts : (request : Request) (first : ℕ) (before : List ℕ) → first ≤ most → Filling request first before before 0 first 0
+filling-starts request first before h =
     record {
-      text = wrote-no-texts (λ i. pageOf system (yearAfter first i)) (omega arith);
+      text = wrote-no-texts (λ i. requestedPage request (yearAfter first i)) (omega arith);
       year-after = omega arith;
       each-had-room = λ n l. absurd (omega arith);
     }
 
-module _ {system first : ℕ} {before out : List ℕ} {pages year end : ℕ} (f : Filling system first before out pages year end) where
+module _ {request : Request} {first : ℕ} {before out : List ℕ} {pages year end : ℕ} (f : Filling request first before out pages year end) where
   pub filling-more : {out′ : List ℕ} {year′ end′ : ℕ}
-      → Put out end 8192 (pageOf system year) out′ end′
+      → Wrote out end (requestedPage request year) out′ end′
       → 8192 ≤ length out - end
       → year′ ≡ min most (year + 1)
-      → Filling system first before out′ (pages + 1) year′ end′
-  filling-more p room e =
-      let w = put-wrote p (omega (arith, f .text .fits, f .text .same-length)) in
+      → Filling request first before out′ (pages + 1) year′ end′
+  filling-more w room e =
       record {
-        text = wrote-one-more (λ i. pageOf system (yearAfter first i)) pages (f .text) (wrote-as (ap (pageOf system) (f .year-after)) w);
+        text = wrote-one-more (λ i. requestedPage request (yearAfter first i)) pages (f .text) (wrote-as (ap (requestedPage request) (f .year-after)) w);
         year-after = omega (arith, f .year-after);
         each-had-room = λ n l.
             by-order n pages
             (λ before-it. f .each-had-room n before-it)
             (λ at-it.
             let last : n ≡ pages = omega arith in
-            omega (arith, f .text .ends, f .text .fits, f .text .same-length, ap (λ k. length (pagesOf system first k)) last));
+            omega (arith, f .text .ends, f .text .fits, f .text .same-length, ap (λ k. length (pagesOf request first k)) last));
       }
 
   -- All are there, or the buffer is full.
   pub filled-all : (count : ℕ) → pages ≤ count → count ≤ pages
-      → FilledWith system first count before out (record { pages = pages; year = year; end = end })
+      → FilledWith request first count before out (record { pages = pages; year = year; end = end })
   filled-all count l h =
       record {
         text = f .text;
@@ -62,7 +59,7 @@ module _ {system first : ℕ} {before out : List ℕ} {pages year end : ℕ} (f 
       }
 
   pub filled-full : (count : ℕ) → pages ≤ count → length out - end < 8192
-      → FilledWith system first count before out (record { pages = pages; year = year; end = end })
+      → FilledWith request first count before out (record { pages = pages; year = year; end = end })
   filled-full count l full =
       record {
         text = f .text;
@@ -73,15 +70,15 @@ module _ {system first : ℕ} {before out : List ℕ} {pages year end : ℕ} (f 
       }
 
 -- A buffer with room for a page takes at least one.
-pub some-page : (system first count : ℕ) (before after : List ℕ) (r : Filled)
-    → FilledWith system first count before after r → 0 < count → 8192 ≤ length before → 0 < r .pages
+pub some-page : (request : Request) (first count : ℕ) (before after : List ℕ) (r : Filled)
+    → FilledWith request first count before after r → 0 < count → 8192 ≤ length before → 0 < r .pages
 unfolding textsUpTo
-some-page system first count before after r f some room =
+some-page request first count before after r f some room =
     by-order 0 (r .pages)
     (λ h. h)
     (λ h.
     let none : r .pages ≡ 0 = omega arith in
-    let nothing : length (pagesOf system first (r .pages)) ≡ 0 = ap (λ n. length (pagesOf system first n)) none in
+    let nothing : length (pagesOf request first (r .pages)) ≡ 0 = ap (λ n. length (pagesOf request first n)) none in
     ⊎-elim (λ e. omega arith) (λ full. omega (arith, f .text .ends)) (f .all-or-full))
 
 -- A turn on a buffer with room for a page leaves fewer years, and goes on with the year after those written.
@@ -89,7 +86,7 @@ pub record Going (first count : ℕ) (year left : ℕ) : Type 0 where
   pub no-more : left ≤ count
   pub year-is : year ≡ yearAfter first (count - left)
 
-module _ {system year left : ℕ} {before after : List ℕ} {r : Filled} (f : FilledWith system year left before after r)
+module _ {request : Request} {year left : ℕ} {before after : List ℕ} {r : Filled} (f : FilledWith request year left before after r)
     (some : 0 < left) where
   pub fewer : 8192 ≤ length before → left - r .pages < left
   fewer room = omega (arith, some-page _ _ _ _ _ _ f some room, f .no-more)

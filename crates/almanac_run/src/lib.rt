@@ -1,4 +1,4 @@
-// The run of the program almanac: `almanac year SYSTEM FIRST [LAST]`.
+// The run of the program almanac: `almanac year SYSTEM FIRST [LAST]` and `almanac compare FIRST SECOND YEAR [LAST]`.
 ghost use mathlib.Core.Path.{_≡_};
 ghost use Rattle.process.specs.Exit.{misused, AnsweredOrFailed, Ended};
 use arguments::number;
@@ -8,6 +8,7 @@ use arguments::options::Wish;
 use arguments::years;
 use arguments::years::Years;
 use process::exit;
+use range::Request;
 
 mod range;
 
@@ -31,11 +32,22 @@ fn years_at(i: usize, j: usize) -> Years {
 fn misuse() -> u32
     ensures { λ r. ⌜ r ≡ misused ⌝ }
 {
-    exit::misuse(b"usage: almanac year SYSTEM FIRST [LAST]\n")
+    exit::misuse(
+        b"usage: almanac year SYSTEM FIRST [LAST] | almanac compare FIRST SECOND YEAR [LAST]\n",
+    )
 }
 
-// Writes the pages of the years from FIRST to the last argument, which is FIRST again where LAST is left out. All
-// arguments are read before anything is written.
+// Writes what is asked of each year from argument i to the last argument, which is argument i again where LAST is left
+// out. All arguments are read before anything is written.
+fn write_years(request: Request, i: usize, last: usize) -> u32
+    ensures { λ r. ⌜ Ended r ⌝ }
+{
+    let Years::From(first, years) = years_at(i, last) else {
+        return misuse();
+    };
+    range::pages(request, first, years)
+}
+
 fn year_pages(count: usize) -> u32
     ensures { λ r. ⌜ Ended r ⌝ }
 {
@@ -48,22 +60,40 @@ fn year_pages(count: usize) -> u32
     let Argument::Number(system) = number_at(2) else {
         return misuse();
     };
-    let Years::From(first, years) = years_at(3, count - 1) else {
+    write_years(Request::Year(system), 3, count - 1)
+}
+
+fn comparisons(count: usize) -> u32
+    ensures { λ r. ⌜ Ended r ⌝ }
+{
+    if count < 5 {
+        return misuse();
+    }
+    if 6 < count {
+        return misuse();
+    }
+    let Argument::Number(first) = number_at(2) else {
         return misuse();
     };
-    range::pages(system, first, years)
+    let Argument::Number(second) = number_at(3) else {
+        return misuse();
+    };
+    write_years(Request::Compare(first, second), 4, count - 1)
 }
 
 fn help() -> u32
     ensures { λ r. ⌜ AnsweredOrFailed r ⌝ }
 {
     let text = b"almanac year SYSTEM FIRST [LAST]\n\
+        almanac compare FIRST SECOND YEAR [LAST]\n\
         almanac --help | --version\n\
         \n\
-        Prints the page of the year FIRST, or of each year from FIRST to LAST, by the\n\
-        calendar with the number SYSTEM: 1 is Guantian, 2 is Jiyuan. A year begins\n\
-        with month 11, late in the common year before it. The manual page almanac(1)\n\
-        tells the lines of a page and the exit status.\n";
+        year prints the page of the year FIRST, or of each year from FIRST to LAST, by\n\
+        the calendar with the number SYSTEM: 1 is Guantian, 2 is Jiyuan. A year begins\n\
+        with month 11, late in the common year before it.\n\
+        compare prints where the months of YEAR, or of each year from YEAR to LAST,\n\
+        differ between the calendars FIRST and SECOND.\n\
+        The manual page almanac(1) tells the lines and the exit status.\n";
     exit::reply(text, b"almanac: standard output")
 }
 
@@ -91,6 +121,9 @@ pub extern "C" fn almanac_run(version: &[u8]) -> u32
     }
     if check::same(&verb[..n], b"year") {
         return year_pages(count);
+    }
+    if check::same(&verb[..n], b"compare") {
+        return comparisons(count);
     }
     misuse()
 }

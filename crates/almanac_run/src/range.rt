@@ -4,10 +4,16 @@ ghost use Prim.Native.Nat.{_+_, _≤_, min};
 ghost use lib.ListN.{length};
 ghost use Rattle.arguments.specs.Number.{most};
 ghost use Rattle.process.specs.Exit.{AnsweredOrFailed};
-ghost use Rattle.almanac_run.specs.Pages.{FilledWith};
-use pages::page;
+ghost use Rattle.text.specs.Wrote.{Wrote};
+ghost use Rattle.almanac_run.specs.Pages.{requestedPage, FilledWith};
 use process::exit;
 use process::streams;
+
+// What is printed of each year: its page by a system, or two systems compared.
+pub(crate) enum Request {
+    Year(u32),
+    Compare(u32, u32),
+}
 
 // Pages put into a buffer: how many, the year after them, and where the last one ends.
 struct Filled {
@@ -23,9 +29,20 @@ fn next_year(year: u32) -> u32
     if year < u32::MAX { year + 1 } else { year }
 }
 
+// The page of a year, put into a buffer that has room for the longest.
+fn page(out: &mut [u8], at: usize, request: Request, year: u32) -> usize
+    requires { ⌜ at + 8192 ≤ length (now out) ⌝ }
+    ensures { λ r. ⌜ Wrote (now (out .entry)) at (requestedPage request year) (now (out .exit)) r ⌝ }
+{
+    match request {
+        Request::Year(system) => pages::page(out, at, system, year),
+        Request::Compare(first, second) => comparison_pages::page(out, at, first, second, year),
+    }
+}
+
 // Puts the pages of up to `count` years from the first on into a buffer, while it has room for one more, 8192 bytes.
-fn fill(out: &mut [u8], system: u32, first: u32, count: u64) -> Filled
-    ensures { λ r. ⌜ FilledWith system first count (now (out .entry)) (now (out .exit)) r ⌝ }
+fn fill(out: &mut [u8], request: Request, first: u32, count: u64) -> Filled
+    ensures { λ r. ⌜ FilledWith request first count (now (out .entry)) (now (out .exit)) r ⌝ }
 {
     let mut pages = 0;
     let mut year = first;
@@ -38,7 +55,7 @@ fn fill(out: &mut [u8], system: u32, first: u32, count: u64) -> Filled
                 end: end,
             };
         }
-        end = page(out, end, system, year);
+        end = page(out, end, request, year);
         year = next_year(year);
         pages += 1;
     }
@@ -50,14 +67,14 @@ fn fill(out: &mut [u8], system: u32, first: u32, count: u64) -> Filled
 }
 
 // Buffer after buffer, and the exit status. A write that fails ends it.
-fn write_pages(out: &mut [u8], system: u32, first: u32, count: u64) -> u32
+fn write_pages(out: &mut [u8], request: Request, first: u32, count: u64) -> u32
     requires { ⌜ 8192 ≤ length (now out) ⌝ }
     ensures { λ r. ⌜ AnsweredOrFailed r ⌝ }
 {
     let mut year = first;
     let mut left = count;
     while 0 < left {
-        let filled = fill(out, system, year, left);
+        let filled = fill(out, request, year, left);
         let end = filled.end;
         if !streams::write(&out[..end]) {
             return exit::fail(b"almanac: standard output");
@@ -69,9 +86,9 @@ fn write_pages(out: &mut [u8], system: u32, first: u32, count: u64) -> u32
 }
 
 // The pages of so many years from the first on.
-pub(crate) fn pages(system: u32, first: u32, count: u64) -> u32
+pub(crate) fn pages(request: Request, first: u32, count: u64) -> u32
     ensures { λ r. ⌜ AnsweredOrFailed r ⌝ }
 {
     let mut buffer = io::large_buffer();
-    write_pages(&mut buffer, system, first, count)
+    write_pages(&mut buffer, request, first, count)
 }

@@ -6,11 +6,11 @@ use Rattle.almanac_run.proofs.range.fill.Statement.{statement}
 use Rattle.almanac_run.proofs.range.fill.Tie as tie
 
 abbrev Inv-loop : tie.InvT-loop
-Inv-loop out₀ system first count pages₀ year₀ end₀ out pages year end =
-    (pages ≤ count) × Filling system first out₀ out pages year end
+Inv-loop out₀ request first count pages₀ year₀ end₀ out pages year end =
+    (pages ≤ count) × Filling request first out₀ out pages year end
 
 abbrev μ-loop : tie.MeasureT-loop
-μ-loop out₀ system first count pages₀ year₀ end₀ out pages year end = count - pages
+μ-loop out₀ request first count pages₀ year₀ end₀ out pages year end = count - pages
 
 loop-holds : tie.Need-loop-holds Inv-loop μ-loop
 loop-holds c = (omega arith, filling-starts _ _ _ (omega arith))

@@ -9,11 +9,11 @@ use Rattle.almanac_run.proofs.range.write_pages.Statement.{statement}
 use Rattle.almanac_run.proofs.range.write_pages.Tie as tie
 
 abbrev Inv-loop : tie.InvT-loop
-Inv-loop out₀ system first count year₀ left₀ t9 out year left =
+Inv-loop out₀ request first count year₀ left₀ t9 out year left =
     (length out ≡ length out₀) × (8192 ≤ length out) × Going first count year left
 
 abbrev μ-loop : tie.MeasureT-loop
-μ-loop out₀ system first count year₀ left₀ t9 out year left = left
+μ-loop out₀ request first count year₀ left₀ t9 out year left = left
 
 loop-holds : tie.Need-loop-holds Inv-loop μ-loop
 loop-holds c = (refl, omega arith, record { no-more = omega arith; year-is = omega arith })
