@@ -1,98 +1,35 @@
 //! The page of a year: solstice, qi, months and day names.
 
-use crate::reckoning::{name_of, Tables, Table};
-use std::io::{self, Write};
-
-/// A whole number of any size, as its decimal digits without leading noughts,
-/// so that a number too large for a machine word is refused and not cut.
-#[derive(Clone, PartialEq, Eq)]
-pub struct Number(Vec<u8>);
-
-impl Number {
-    pub fn read(text: &str) -> Option<Number> {
-        if text.is_empty() || !text.bytes().all(|b| b.is_ascii_digit()) {
-            return None;
-        }
-        let digits: Vec<u8> = text.bytes().map(|b| b - b'0').skip_while(|d| *d == 0).collect();
-        Some(Number(digits))
-    }
-
-    /// At or below another: fewer digits, or as many and no later in order.
-    fn at_most(&self, other: &Number) -> bool {
-        self.0.len() < other.0.len() || (self.0.len() == other.0.len() && self.0 <= other.0)
-    }
-
-    /// The number itself if it has at most four digits.
-    fn small(&self) -> Option<i128> {
-        if self.0.len() > 4 {
-            return None;
-        }
-        let mut value = 0;
-        for digit in &self.0 {
-            value = value * 10 + *digit as i128;
-        }
-        Some(value)
-    }
-
-    fn add_one(&mut self) {
-        for digit in self.0.iter_mut().rev() {
-            if *digit < 9 {
-                *digit += 1;
-                return;
-            }
-            *digit = 0;
-        }
-        self.0.insert(0, 1);
-    }
-}
-
-/// The pages of the years from first to last, both among them.
-pub fn pages(
-    tables: &Tables,
-    system: &Number,
-    first: &Number,
-    last: &Number,
-    out: &mut impl Write,
-) -> io::Result<()> {
-    let mut year = first.clone();
-    while year.at_most(last) {
-        page(tables, system, &year, out)?;
-        year.add_one();
-    }
-    Ok(())
-}
+use crate::lines::month_text;
+use crate::reckoning::{name_of, Month, Qi, Table, Tables};
+use crate::requests::{system_asked, year_asked, Answer, Number};
 
 /// A wrong system is refused before a wrong year.
-fn page(tables: &Tables, system: &Number, year: &Number, out: &mut impl Write) -> io::Result<()> {
-    let table = match system.small() {
-        Some(1) => tables.table(1).unwrap(),
-        Some(2) => tables.table(2).unwrap(),
-        _ => return writeln!(out, "refused 4"),
-    };
-    match year.small() {
-        Some(number) if number >= 1 && number <= 3000 => accepted_page(table, number, out),
-        _ => writeln!(out, "refused 5"),
-    }
+pub fn page(tables: &Tables, system: &Number, year: &Number) -> Answer {
+    let system = system_asked(system)?;
+    let year = year_asked(year)?;
+    Ok(accepted_page(tables.table(system).unwrap(), year))
 }
 
-fn accepted_page(table: &Table, number: i128, out: &mut impl Write) -> io::Result<()> {
+fn accepted_page(table: &Table, number: i128) -> Vec<String> {
     let year = table.year(number);
-    let months = year.months.len();
-    writeln!(out, "year {} {} {} {}", table.system.letter, number, months, year.length())?;
+    let (letter, months) = (table.system.letter, year.months.len());
+    let mut lines = vec![format!("year {} {} {} {}", letter, number, months, year.length())];
     let day = year.solstice_day;
-    writeln!(out, "solstice {} {} {}", day, name_of(day), year.solstice_remainder)?;
-    for (i, qi) in year.qi.iter().enumerate() {
-        writeln!(out, "qi {} {} {} {} {}", i, qi.day, name_of(qi.day), qi.parts, qi.small_units)?;
-    }
-    for (i, month) in year.months.iter().enumerate() {
-        let mark = if month.leap { "*" } else { "" };
-        let (head, length) = (month.head, month.length);
-        writeln!(out, "month {} {}{} {} {} {}", i + 1, month.number, mark, head, name_of(head), length)?;
-    }
-    writeln!(out, "next {}", year.next_head)?;
-    write!(out, "names")?;
-    for day in year.head..year.next_head {
-        write!(out, " {}", name_of(day))?;
-    }
-    writeln!(out)
+    lines.push(format!("solstice {} {} {}", day, name_of(day), year.solstice_remainder));
+    lines.extend(year.qi.iter().enumerate().map(qi_line));
+    lines.extend(year.months.iter().enumerate().map(month_line));
+    lines.push(format!("next {}", year.next_head));
+    let names: Vec<String> = (year.head..year.next_head).map(|day| name_of(day).to_string()).collect();
+    lines.push(format!("names {}", names.join(" ")));
+    lines
+}
+
+fn qi_line((i, qi): (usize, &Qi)) -> String {
+    format!("qi {} {} {} {} {}", i, qi.day, name_of(qi.day), qi.parts, qi.small_units)
+}
+
+fn month_line((i, month): (usize, &Month)) -> String {
+    let (text, head) = (month_text(month.number, month.leap), month.head);
+    format!("month {} {} {} {} {}", i + 1, text, head, name_of(head), month.length)
 }

@@ -59,15 +59,19 @@ fn line(tables: &Tables, record: &[u8]) -> String {
             let table = tables.table(stored[4]).unwrap();
             let place = table.place(day).unwrap();
             format!(
-                "{} {} {}{} {} {} {}",
+                "{} {} {} {} {} {}",
                 table.system.letter,
                 place.year,
-                place.month,
-                if place.leap { "*" } else { "" },
+                month_text(place.month, place.leap),
                 place.day_of_month,
                 day,
                 name_of(day)
             )
         }
     }
+}
+
+/// A month's number, with `*` after it if leap.
+pub fn month_text(number: u8, leap: bool) -> String {
+    format!("{}{}", number, if leap { "*" } else { "" })
 }

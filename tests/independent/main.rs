@@ -4,18 +4,21 @@
 mod almanac;
 mod cases;
 mod citation;
+mod compare;
 mod lines;
 mod random;
 mod reckoning;
+mod requests;
 mod streams;
 
-use almanac::Number;
 use reckoning::{Tables, Table, GUANTIAN, JIYUAN};
+use requests::{answers, Number};
 use std::io::{self, BufWriter, Read, Write};
 use std::process::exit;
 
 const USAGE: &str = "usage:
   independent almanac SYSTEM FIRST [LAST]
+  independent compare FIRST SECOND YEAR [LAST]
   independent lines < records
   independent cuts LONGEST < records
   independent days SYSTEM
@@ -30,6 +33,8 @@ fn main() {
     let written = match words[..] {
         ["almanac", system, first] => almanac(system, first, first, &mut out),
         ["almanac", system, first, last] => almanac(system, first, last, &mut out),
+        ["compare", one, other, first] => compare(one, other, first, first, &mut out),
+        ["compare", one, other, first, last] => compare(one, other, first, last, &mut out),
         ["lines"] => lines::lines(&Tables::new(), &records(), &mut out),
         ["cuts", longest] => lines::cuts(&Tables::new(), &records(), word(longest), &mut out),
         ["days", "1"] => streams::days(&Table::new(&GUANTIAN), &mut out),
@@ -59,8 +64,14 @@ fn word(text: &str) -> u64 {
 }
 
 fn almanac(system: &str, first: &str, last: &str, out: &mut impl Write) -> io::Result<()> {
-    let (system, first, last) = (number(system), number(first), number(last));
-    almanac::pages(&Tables::new(), &system, &first, &last, out)
+    let (tables, system) = (Tables::new(), number(system));
+    answers(&number(first), &number(last), |year| almanac::page(&tables, &system, year), out)
+}
+
+fn compare(one: &str, other: &str, first: &str, last: &str, out: &mut impl Write) -> io::Result<()> {
+    let (tables, one, other) = (Tables::new(), number(one), number(other));
+    let comparison = |year: &Number| compare::comparison(&tables, &one, &other, year);
+    answers(&number(first), &number(last), comparison, out)
 }
 
 /// All of standard input.

@@ -3,6 +3,8 @@
 //! by stepping from new moon to new moon, a month's number by trying every
 //! middle qi against it, a day's place by walking through the days.
 
+use std::cell::OnceCell;
+
 /// Paper 01, constants: one column of the table.
 pub struct System {
     pub number: u8,
@@ -202,21 +204,22 @@ impl Table {
     }
 }
 
-/// Both systems.
+/// Both systems. The walk from the epoch is long, so a table is made when it
+/// is first asked for, and a refused request needs none.
 pub struct Tables {
-    guantian: Table,
-    jiyuan: Table,
+    guantian: OnceCell<Table>,
+    jiyuan: OnceCell<Table>,
 }
 
 impl Tables {
     pub fn new() -> Tables {
-        Tables { guantian: Table::new(&GUANTIAN), jiyuan: Table::new(&JIYUAN) }
+        Tables { guantian: OnceCell::new(), jiyuan: OnceCell::new() }
     }
 
     pub fn table(&self, system: u8) -> Option<&Table> {
         match system {
-            1 => Some(&self.guantian),
-            2 => Some(&self.jiyuan),
+            1 => Some(self.guantian.get_or_init(|| Table::new(&GUANTIAN))),
+            2 => Some(self.jiyuan.get_or_init(|| Table::new(&JIYUAN))),
             _ => None,
         }
     }
