@@ -13,7 +13,7 @@ written() {
     told "compare $*, as written out" 0 "$scratch/expected" ''
 }
 
-# Leap months that part; heads that part; a month that one system lacks. No place of these years differs in its number
+# Leap months that differ; heads that differ; a month that one system lacks. No place of these years differs in its number
 # alone.
 written 1 2 1094 << 'END'
 compare G J 1094 2
@@ -44,7 +44,7 @@ compare J G 1832 1
 place 13 10* 2390511 - - second
 END
 
-# A system does not part from itself.
+# A system does not differ from itself.
 written 1 1 2999 3001 << 'END'
 compare G G 2999 0
 compare G G 3000 0

@@ -1,4 +1,4 @@
-//! Request Q-1 of paper 02: where two systems part in a year.
+//! Request Q-1 of paper 02: where two systems differ in a year.
 
 use crate::lines::month_text;
 use crate::reckoning::{Month, Tables};
@@ -28,7 +28,7 @@ fn accepted_comparison(tables: &Tables, first: u8, second: u8, number: i128) -> 
     lines
 }
 
-/// The line of a place where the systems part.
+/// The line of a place where the systems differ.
 fn place_line(place: usize, first: Option<&Month>, second: Option<&Month>) -> Option<String> {
     let told = match (first, second) {
         (None, None) => return None,
