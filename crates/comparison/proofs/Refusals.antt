@@ -112,8 +112,9 @@ module _ {a : Year} (first second year : ℕ) (a-is : a ≡ yearOf first year) w
   a-refusal : a .refusal ≡ yearRefusal first year
   a-refusal = ap (λ m. m .refusal) a-is ∙ year-carries first year
 
-  pub wrong-first : {v : Comparison} → a .refusal ≡ SYSTEM → v ≡ noComparison SYSTEM → v ≡ comparisonOf first second year
-  wrong-first wrong is = refused-as (first-wrong first second year (sym a-refusal ∙ wrong)) (λ z. omega arith) is
+  pub wrong-first : {v : Comparison} → a .refusal ≡ SYSTEM → v ≡ noComparison (a .refusal) → v ≡ comparisonOf first second year
+  wrong-first wrong is =
+      refused-as (first-wrong first second year (sym a-refusal ∙ wrong) ∙ sym wrong) (λ z. omega arith) is
 
   module _ {b : Year} (right : a .refusal ≡ SYSTEM → ⊥) (b-is : b ≡ yearOf second year) where
     judged : comparisonRefusal first second year ≡ b .refusal

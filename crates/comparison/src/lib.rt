@@ -12,8 +12,9 @@ pub fn compare(first: u32, second: u32, year: u32) -> Comparison
     ensures { λ r. ⌜ r ≡ comparisonOf first second year ⌝ }
 {
     let ours = reckoning::year(first, year);
-    if ours.refusal == SYSTEM {
-        return places::none(SYSTEM);
+    let refusal = ours.refusal;
+    if refusal == SYSTEM {
+        return places::none(refusal);
     }
     let theirs = reckoning::year(second, year);
     let refusal = theirs.refusal;

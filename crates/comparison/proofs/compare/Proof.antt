@@ -10,7 +10,7 @@ none-requires : tie.Need-none-requires
 none-requires c κs = search needs
 
 returns : tie.Need-returns
-returns c = search wrong-first
+returns c = wrong-first _ _ _ (c .before .before .year .ensures) (c .before .if1 .taken) (c .none .ensures)
 
 year-requires-2 : tie.Need-year-requires-2
 year-requires-2 c κs = search needs

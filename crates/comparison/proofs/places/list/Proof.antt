@@ -51,7 +51,9 @@ cast-t14 : tie.Need-cast-t14 Inv-loop μ-loop
 cast-t14 c = search needs
 
 returns : tie.Need-returns Inv-loop μ-loop
-returns c = search listed-all
+returns c =
+    let so-far = c .before .loop .inv in
+    listed-all _ _ (so-far .2) (so-far .1) (omega arith)
 
 pub list-spec : {M : Type 1} → statement M
 list-spec =

@@ -1,3 +1,4 @@
+use mathlib.Core.Path.{refl}
 use native.Mathlib.Omega.{arith}
 use Rattle.text.proofs.Putting.{all-put, put-then, put-last}
 use Rattle.comparison_pages.proofs.SignedDays.{put-negative, put-other}
@@ -21,7 +22,12 @@ same-length : tie.Need-same-length
 same-length c = search needs
 
 returns : tie.Need-returns
-returns c = all-put (search (put-negative, put-then, put-last)) (omega arith)
+returns c =
+    let digits = c .before .before in
+    let minus = digits .before .before .before .before in
+    let test = minus .before .before .before in
+    let told = put-then (minus .word .ensures) refl (put-last (digits .number .ensures) refl) in
+    all-put (put-negative _ (test .before .before .before .pre .1) (test .before .size-of .ensures) (test .if1 .taken) told) (omega arith)
 
 field-requires : tie.Need-field-requires
 field-requires c κs = search needs
