@@ -1,72 +1,28 @@
--- A comparison says where and how two systems differ in a year by the reckoning: paper 02, Q-1, in the order of its
--- sentences, for every system and year in scope.
-use Prim.Native.Nat.{ℕ, _+_, _-_, _≤_, _<_}
-use mathlib.Core.Path.{_≡_, refl, sym, subst, ap, _∙_}
-use mathlib.Core.List.{List, _++_}
+-- Where do the two systems part? Paper 02, Q-1, in the order of its sentences: what a comparison answers is so by the
+-- reckoning, for all systems and years in scope. The last two laws hold for every input.
+use Prim.Native.Nat.{ℕ, _-_, _≤_, _<_}
+use mathlib.Core.Path.{_≡_, sym, subst, ap, _∙_}
 use native.Mathlib.Omega.{arith}
-use lib.IntN.{ℤ, pos, _+ℤ_}
-use lib.ListN.{length, getD, replicate, length-append, length-replicate, List·getD-append}
-use lib.Seq.{getD-append-add}
-use borrow.Author.Tests.{eq-eqb, ne-eqb}
+use lib.ListN.{length, getD}
+use borrow.Author.Tests.{ne-eqb}
 use Rattle.calendar.specs.ExactlyOne.{ExactlyOne}
 use Rattle.reckoning.specs.declared.data.Year.{Year}
 use Rattle.reckoning.specs.Requests.{yearOf}
 use Rattle.reckoning.specs.Scope.{InScope}
 use Rattle.reckoning.specs.WordedRefusals.{FirstOf}
-use Rattle.reckoning.proofs.FilledLaws.{replicate-reads}
 use Rattle.comparison.specs.declared.data.Comparison.{Comparison}
-use Rattle.comparison.specs.declared.data.Difference.{Difference}
-use Rattle.comparison.specs.declared.data.Difference.the-variants.{Days, FirstLacks, SecondLacks}
-use Rattle.comparison.specs.declared.data.Listed.{Listed}
-use Rattle.comparison.specs.Comparisons.{comparisonRefusal, listedAt, placesUpTo, unused, thirteen, listing, noComparison}
-use Rattle.comparison.specs.Comparisons.{comparisonOf}
-use Rattle.comparison.specs.WhereSystemsDiffer.{MonthAt, NoMonthAt, SystemsDiffer, DaysApart, Says}
+use Rattle.comparison.specs.declared.data.Difference.the-variants.{FirstLacks, SecondLacks}
+use Rattle.comparison.specs.Comparisons.{comparisonRefusal, unused, listing, noComparison, comparisonOf}
+use Rattle.comparison.specs.WhereSystemsDiffer.{MonthAt, NoMonthAt, SystemsDiffer, Says, GivesDays}
 use Rattle.comparison.specs.WhereSystemsDiffer.{placeIn, differenceIn, ListsAs, comparisonRows}
-use Rattle.comparison.proofs.Listing.{before, before-most, in-order, StandsAt, stands-at, stands-within, stands-alone}
-use Rattle.comparison.proofs.MonthsCompared.{one-head, differ-if-listed, says-how, listed-if-differ}
+use Rattle.comparison.specs.Swapped.{swapped}
+use Rattle.comparison.proofs.Listing.{before, before-most, in-order, stands-within, stands-alone}
+use Rattle.comparison.proofs.MonthsCompared.{differ-if-listed, says-how, listed-if-differ}
+use Rattle.comparison.proofs.Entries.{is-listing, counted, entry-at, thirteen-places, unused-entry}
+use Rattle.comparison.proofs.Entries.{gives-days, lacks-first, lacks-second}
 use Rattle.comparison.proofs.Refusals as Refused
-
--- What the value of a comparison has at its j-th place.
-entry : (a b : Year) (j : ℕ) → j < before a b 13 → (s : StandsAt a b 13 j)
-    → getD ((listing a b) .places) j unused ≡ listedAt a b (s .place)
-unfolding listing
-entry a b j h s =
-    let places = placesUpTo a b 13 in
-    List·getD-append places (replicate (13 - length places) unused) unused j h ∙ s .is
-
--- Refused SYSTEM for either system, then YEAR;
-pub refusal-is-the-first : (first second year : ℕ) → FirstOf (comparisonRows first second year) (comparisonRefusal first second year)
-refusal-is-the-first = Refused.refusal-first
-
--- and then it carries its number and lists nothing.
-pub refused-lists-nothing : (first second year : ℕ) → (comparisonRefusal first second year ≡ 0 → ⊥)
-    → comparisonOf first second year ≡ noComparison (comparisonRefusal first second year)
-unfolding comparisonOf
-refused-lists-nothing first second year some = simp (ne-eqb (comparisonRefusal first second year) 0 some)
-
--- A difference in days, of which something holds.
-pub record Told (d : Difference) (Holds : ℤ → Type 0) : Type 0 where
-  pub days : ℤ
-  pub is : d ≡ Days days
-  pub told : Holds days
-
--- What a case can be, by which of the two has a month there.
-module _ (first second year place : ℕ) where
-  told-of : (d : Difference) → Says first second year place d → MonthAt first year place → MonthAt second year place
-      → Told d (DaysApart first second year place)
-  told-of (Days days) says m n = record { days = days; is = refl; told = says }
-  told-of FirstLacks says m n = absurd (says .0 m)
-  told-of SecondLacks says m n = absurd (says .1 n)
-
-  lacks-first : (d : Difference) → Says first second year place d → NoMonthAt first year place → d ≡ FirstLacks
-  lacks-first (Days days) says none = absurd (none (says .month))
-  lacks-first FirstLacks says none = refl
-  lacks-first SecondLacks says none = absurd (none (says .0))
-
-  lacks-second : (d : Difference) → Says first second year place d → NoMonthAt second year place → d ≡ SecondLacks
-  lacks-second (Days days) says none = absurd (none (says .other))
-  lacks-second FirstLacks says none = absurd (none (says .1))
-  lacks-second SecondLacks says none = refl
+use Rattle.comparison.proofs.Itself as Itself
+use Rattle.comparison.proofs.Swapping as Swapping
 
 module _ (first second year : ℕ) (s : InScope first year) (t : InScope second year) where
   abbrev v : Comparison
@@ -78,117 +34,95 @@ module _ (first second year : ℕ) (s : InScope first year) (t : InScope second 
   abbrev b : Year
   b = yearOf second year
 
-  is-listing : v ≡ listing a b
-  unfolding comparisonOf
-  is-listing = simp (eq-eqb (comparisonRefusal first second year) 0 (Refused.compared first second year s t))
-
-  counted : v .count ≡ before a b 13
-  unfolding listing
-  counted = ap (λ w. w .count) is-listing
-
-  -- The i-th place listed.
-  record Entry (i : ℕ) : Type 0 where
-    stands : StandsAt a b 13 i
-    is : getD (v .places) i unused ≡ listedAt a b (stands .place)
-
-  entry-at : (i : ℕ) → i < v .count → Entry i
-  entry-at i h =
-      let l : i < before a b 13 = omega (arith, counted) in
-      let at = stands-at a b 13 i l in
-      record { stands = at; is = ap (λ w. getD (w .places) i unused) is-listing ∙ entry a b i l at }
-
-  place-of : (i : ℕ) (e : Entry i) → placeIn v i ≡ e .stands .place + 1
-  place-of i e = ap (λ l. l .place) (e .is)
-
   -- Each place from the first to the thirteenth is listed exactly when the two months differ in number, leap mark or
-  -- head, or when only one system has it;
+  -- head, or when only one system has it,
   pub differ-where-listed : (i : ℕ) → i < v .count → SystemsDiffer first second year (placeIn v i)
   differ-where-listed i h =
-      let e = entry-at i h in
-      subst (SystemsDiffer first second year) (sym (place-of i e))
+      let e = entry-at first second year s t i h in
+      subst (SystemsDiffer first second year) (sym (e .place-is))
       (differ-if-listed first second year s t (e .stands .place) (e .stands .listed))
 
+  -- and listed once,
   pub listed-where-differ : (place : ℕ) → SystemsDiffer first second year place → ExactlyOne (ListsAs v place)
   listed-where-differ place d =
+      let count = counted first second year s t in
       let to-list = listed-if-differ first second year s t place d in
       let from = to-list .from-first in
       let i = before a b (place - 1) in
       let within = stands-within a b 13 (place - 1) (omega (arith, to-list .to-thirteenth)) (to-list .listed) in
-      let e = entry-at i (omega (arith, counted)) in
+      let e = entry-at first second year s t i (omega arith) in
       let here = stands-alone a b (e .stands .place) (place - 1) (e .stands .listed) (to-list .listed) (e .stands .stands) in
       record {
         it = i;
-        has = (omega (arith, counted), omega (arith, place-of i e));
+        has = (omega arith, omega (arith, e .place-is));
         only = λ j p.
-            let f = entry-at j (p .0) in
-            let there : f .stands .place ≡ place - 1 = omega (arith, place-of j f, p .1) in
+            let f = entry-at first second year s t j (p .0) in
+            let there : f .stands .place ≡ place - 1 = omega (arith, f .place-is, p .1) in
             sym (f .stands .stands) ∙ ap (before a b) there;
       }
 
-  -- in order, each once, none past the thirteenth.
+  -- in order,
   pub in-rising-order : (i j : ℕ) → i < j → j < v .count → placeIn v i < placeIn v j
   in-rising-order i j l h =
-      let e = entry-at i (omega arith) in
-      let f = entry-at j h in
+      let e = entry-at first second year s t i (omega arith) in
+      let f = entry-at first second year s t j h in
       let rises = in-order a b (e .stands .place) (f .stands .place) (omega (arith, e .stands .stands, f .stands .stands)) in
-      omega (arith, place-of i e, place-of j f)
+      omega (arith, e .place-is, f .place-is)
 
-  pub none-past-thirteenth : (i : ℕ) → i < v .count → (1 ≤ placeIn v i) × (placeIn v i ≤ 13)
-  none-past-thirteenth i h =
-      let e = entry-at i h in (omega (arith, place-of i e), omega (arith, place-of i e, e .stands .within))
+  -- and none is past the thirteenth.
+  pub first-to-thirteenth : (i : ℕ) → i < v .count → (1 ≤ placeIn v i) × (placeIn v i ≤ 13)
+  first-to-thirteenth i h =
+      let e = entry-at first second year s t i h in (omega (arith, e .place-is), omega (arith, e .place-is, e .stands .within))
 
   pub thirteen-at-most : v .count ≤ 13
-  thirteen-at-most = omega (arith, counted, before-most a b 13)
+  thirteen-at-most = omega (arith, counted first second year s t, before-most a b 13)
 
   -- What is said of a place is what its case stands for.
   pub says-what-it-stands-for : (i : ℕ) → i < v .count → Says first second year (placeIn v i) (differenceIn v i)
   says-what-it-stands-for i h =
-      let e = entry-at i h in
+      let e = entry-at first second year s t i h in
       subst (λ l. Says first second year (l .place) (l .difference)) (sym (e .is))
       (says-how first second year s t (e .stands .place) (e .stands .listed))
 
-  -- Where both exist, the head of the second is that of the first and the difference, as integers;
-  pub both-there : (i : ℕ) → i < v .count → (m : MonthAt first year (placeIn v i)) → (n : MonthAt second year (placeIn v i))
-      → Told (differenceIn v i) (λ days. pos (n .head) ≡ pos (m .head) +ℤ days)
-  both-there i h m n =
-      let apart = told-of first second year _ _ (says-what-it-stands-for i h) m n in
-      let d = apart .told in
-      record {
-        days = apart .days;
-        is = apart .is;
-        told =
-            ap pos (one-head second year t _ n (d .other))
-            ∙ d .apart
-            ∙ ap (λ head. pos head +ℤ apart .days) (one-head first year s _ (d .month) m);
-      }
+  -- So where both exist it gives the head of the second minus the head of the first, a signed count of days;
+  pub both-exist : (i : ℕ) → i < v .count → (m : MonthAt first year (placeIn v i)) → (n : MonthAt second year (placeIn v i))
+      → GivesDays (differenceIn v i) (m .head) (n .head)
+  both-exist i h m n = gives-days first second year s t (placeIn v i) (differenceIn v i) (says-what-it-stands-for i h) m n
 
-  -- where one is missing, it says which.
+  -- and where one is missing, it says which.
   pub first-missing : (i : ℕ) → i < v .count → NoMonthAt first year (placeIn v i) → differenceIn v i ≡ FirstLacks
-  first-missing i h none = lacks-first first second year _ _ (says-what-it-stands-for i h) none
+  first-missing i h none = lacks-first first second year s t (placeIn v i) (differenceIn v i) (says-what-it-stands-for i h) none
 
   pub second-missing : (i : ℕ) → i < v .count → NoMonthAt second year (placeIn v i) → differenceIn v i ≡ SecondLacks
-  second-missing i h none = lacks-second first second year _ _ (says-what-it-stands-for i h) none
+  second-missing i h none = lacks-second first second year s t (placeIn v i) (differenceIn v i) (says-what-it-stands-for i h) none
 
-  -- Answered, it carries no refusal, and what is not used is zeros.
+  -- It carries no refusal, and its unused places are zeros.
   pub not-refused : v .refusal ≡ 0
   unfolding listing
-  not-refused = ap (λ w. w .refusal) is-listing
+  not-refused = ap (λ w. w .refusal) (is-listing first second year s t)
 
   pub has-thirteen-places : length (v .places) ≡ 13
-  unfolding listing
-  has-thirteen-places =
-      let places = placesUpTo a b 13 in
-      ap (λ w. length (w .places)) is-listing
-      ∙ length-append places (replicate (13 - length places) unused)
-      ∙ omega (arith, length-replicate (13 - length places) unused, before-most a b 13)
+  has-thirteen-places = ap (λ w. length (w .places)) (is-listing first second year s t) ∙ thirteen-places a b
 
   pub unused-are-zeros : (i : ℕ) → v .count ≤ i → getD (v .places) i unused ≡ unused
-  unfolding listing
   unused-are-zeros i h =
-      let places = placesUpTo a b 13 in
-      let rest = replicate (13 - length places) unused in
-      let past : length places + (i - length places) ≡ i = omega (arith, counted) in
-      ap (λ w. getD (w .places) i unused) is-listing
-      ∙ ap (λ n. getD (places ++ rest) n unused) (sym past)
-      ∙ getD-append-add places rest (i - length places) unused
-      ∙ replicate-reads unused (13 - length places) (i - length places)
+      ap (λ w. getD (w .places) i unused) (is-listing first second year s t)
+      ∙ unused-entry a b i (omega (arith, counted first second year s t))
+
+-- Either system wrong is refused SYSTEM, then the year YEAR;
+pub refusal-is-the-first : (first second year : ℕ) → FirstOf (comparisonRows first second year) (comparisonRefusal first second year)
+refusal-is-the-first = Refused.refusal-first
+
+-- refused, it carries its number and lists nothing.
+pub refused-lists-nothing : (first second year : ℕ) → (comparisonRefusal first second year ≡ 0 → ⊥)
+    → comparisonOf first second year ≡ noComparison (comparisonRefusal first second year)
+unfolding comparisonOf
+refused-lists-nothing first second year some = simp (ne-eqb (comparisonRefusal first second year) 0 some)
+
+-- A system compared with itself lists nothing.
+pub itself-lists-nothing : (system year : ℕ) → comparisonOf system system year ≡ noComparison (comparisonRefusal system system year)
+itself-lists-nothing = Itself.itself-lists-nothing
+
+-- Two systems compared the other way round: each sign turns, and which lacks a month is exchanged.
+pub the-other-way-round : (first second year : ℕ) → comparisonOf second first year ≡ swapped (comparisonOf first second year)
+the-other-way-round = Swapping.swapped-answer

@@ -10,7 +10,6 @@ use lib.Seq.{set-append-seam, getD-append-seam}
 use Rattle.calendar.proofs.Cases.{by-bool}
 use Rattle.calendar.proofs.Rising.{by-order}
 use Rattle.reckoning.specs.declared.data.Year.{Year}
-use Rattle.comparison.specs.declared.data.Comparison.{Comparison}
 use Rattle.comparison.specs.declared.data.Listed.{Listed}
 use Rattle.comparison.specs.Comparisons.{isListed, listedAt, placesUpTo, unused, thirteen, listing}
 

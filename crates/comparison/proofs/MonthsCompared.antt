@@ -1,18 +1,15 @@
 -- Place by place, the values of two years say of their months what the reckoning says.
 use Prim.Native.Nat.{ℕ, _+_, _-_, _^_, _≤_, _<_}
 use mathlib.Core.Path.{_≡_, refl, sym, subst, ap, _∙_}
-use mathlib.Core.Logic.{_⊎_, inl, inr, ⊎-elim}
-use mathlib.Core.Bool.{Bool, true, false, true≢false, not, cond, _&&_}
+use mathlib.Core.Logic.{_⊎_, ⊎-elim}
+use mathlib.Core.Bool.{Bool, true, false, true≢false, not}
 use native.Mathlib.Omega.{arith}
-use lib.Dec.{eqb}
 use lib.IntN.{pos, _+ℤ_, _-ℤ_, +ℤ-comm, -ℤ-+ℤ-cancel}
-use borrow.Author.Tests.{lt-ltb, le-ltb, eqb-true, eqb-false}
 use Rattle.calendar.specs.declared.data.Constants.{Constants}
 use Rattle.calendar.specs.Systems.{constantsOf, yearsElapsed}
-use Rattle.calendar.specs.Consistent.{Consistent}
 use Rattle.calendar.specs.ClosedForms.{monthNumber, leapMark}
 use Rattle.calendar.specs.Month.{monthHead, Bears, Marked}
-use Rattle.calendar.proofs.Cases.{by-bool, both}
+use Rattle.calendar.proofs.Cases.{by-bool}
 use Rattle.calendar.proofs.EachSystem.{consistent}
 use Rattle.calendar.proofs.Numbers.{number-unique, mark-unique}
 use Rattle.calendar.proofs.Rising.{by-order}
@@ -20,11 +17,9 @@ use Rattle.calendar.proofs.Spans.{span-first, span-next}
 use Rattle.reckoning.specs.declared.data.Year.{Year}
 use Rattle.reckoning.specs.Requests.{yearOf}
 use Rattle.reckoning.specs.Scope.{InScope}
-use Rattle.reckoning.specs.YearValue.{headIn, numberIn, leapIn, ListsMonths, Tiled}
+use Rattle.reckoning.specs.YearValue.{headIn, numberIn, leapIn, ListsMonths}
 use Rattle.reckoning.proofs.ScopeInRegister.{year-in-register}
 use Rattle.reckoning.proofs.MonthsRight.{year-holds, year-tiled}
-use Rattle.comparison.specs.declared.data.Difference.{Difference}
-use Rattle.comparison.specs.declared.data.Difference.the-variants.{Days, FirstLacks, SecondLacks}
 use Rattle.comparison.specs.Comparisons.{sameMonth, isListed, differenceAt}
 use Rattle.comparison.proofs.PlaceCases.{by-months, listed-both, listed-first, listed-second, listed-none}
 use Rattle.comparison.proofs.PlaceCases.{days-between, first-lacks, second-lacks, all-same, some-differs}

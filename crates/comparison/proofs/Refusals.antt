@@ -1,9 +1,8 @@
 -- A comparison is refused by its table, and otherwise both of its years are in scope.
-use Prim.Native.Nat.{ℕ, _<_}
+use Prim.Native.Nat.{ℕ}
 use mathlib.Core.Path.{_≡_, refl, sym, ap, ap₂, _∙_}
 use mathlib.Core.Logic.{inl, inr, ⊎-elim}
 use mathlib.Core.Bool.{Bool, true, false, cond}
-use native.Mathlib.Decide.{ℕ-discrete}
 use native.Mathlib.Omega.{arith}
 use borrow.Author.Tests.{eq-eqb, ne-eqb, eqb-true}
 use lib.Dec.{eqb}
@@ -12,7 +11,7 @@ use Rattle.calendar.proofs.Rising.{by-order}
 use Rattle.reckoning.specs.declared.data.Year.{Year}
 use Rattle.reckoning.specs.RefusalNumbers.{SYSTEM, YEAR}
 use Rattle.reckoning.specs.ComputedRefusals.{Rule, _if_, wrongSystem, wrongYear, yearRefusal}
-use Rattle.reckoning.specs.Scope.{SystemInScope, InScope}
+use Rattle.reckoning.specs.Scope.{InScope}
 use Rattle.reckoning.specs.WordedRefusals.{FirstOf}
 use Rattle.reckoning.specs.Requests.{yearOf}
 use Rattle.reckoning.proofs.RefusalCases.{accepted, in-scope, by-scope}

@@ -1,5 +1,4 @@
 -- A comparison with the two systems the other way round.
-use Prim.Native.Nat.{ℕ}
 use mathlib.Core.List.{map}
 use lib.IntN.{negℤ}
 use Rattle.comparison.specs.declared.data.Comparison.{Comparison}

@@ -56,6 +56,12 @@ Says first second year place (Days days) = DaysApart first second year place day
 Says first second year place FirstLacks = NoMonthAt first year place × MonthAt second year place
 Says first second year place SecondLacks = MonthAt first year place × NoMonthAt second year place
 
+-- Days are given, and the second head is the first head and those days, as integers.
+pub record GivesDays (difference : Difference) (head other : ℕ) : Type 0 where
+  pub days : ℤ
+  pub given : difference ≡ Days days
+  pub apart : pos other ≡ pos head +ℤ days
+
 -- The answer's i-th entry, from 0: the place that it lists, and what it says of it.
 abbrev pub placeIn : Comparison → ℕ → ℕ
 placeIn v i = (getD (v .places) i unused) .place

@@ -1,6 +1,6 @@
 // The places where two years differ.
 ghost use mathlib.Core.Path.{_≡_};
-ghost use Prim.Native.Nat.{_<_, _≤_};
+ghost use Prim.Native.Nat.{_<_};
 ghost use lib.IntN.{pos, _-ℤ_};
 ghost use Rattle.comparison.specs.Comparisons.{sameMonth, isListed, differenceAt, listedAt, unused, listing, noComparison};
 use crate::data::Comparison;

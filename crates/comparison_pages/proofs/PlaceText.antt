@@ -1,7 +1,6 @@
 -- The line of a place from its pieces.
 use Prim.Native.Nat.{ℕ, _+_, _-_, _^_, _≤_, _<_}
 use mathlib.Core.Path.{_≡_, subst, sym, ap, _∙_}
-use mathlib.Core.Bool.{true, false, cond}
 use mathlib.Core.List.{List, [], _∷_, _++_}
 use native.Mathlib.Omega.{arith}
 use lib.IntN.{ℤ, natAbs}
@@ -21,7 +20,7 @@ use Rattle.text.proofs.Writing.{wrote-as, wrote-then}
 use Rattle.text.proofs.Putting.{Puts, put-wrote}
 use Rattle.comparison_pages.specs.Printable.{SmallDays}
 use Rattle.comparison_pages.specs.ComparisonPage.{monthText, monthTexts, daysText, differenceText, lineEnd, placeLine}
-use Rattle.comparison_pages.proofs.SignedDays.{stored, is-stored}
+use Rattle.comparison_pages.proofs.SignedDays.{is-stored}
 
 -- A month, or none.
 module _ {b a : List ℕ} {at e rooms : ℕ} (months : Year) (i : ℕ) where

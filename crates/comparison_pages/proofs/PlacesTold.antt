@@ -1,9 +1,9 @@
 -- A comparison that was answered has places that can be told.
-use Prim.Native.Nat.{ℕ, suc, _+_, _-_, _^_, _≤_, _<_}
+use Prim.Native.Nat.{ℕ, suc, _+_, _-_, _≤_, _<_}
 use mathlib.Core.Path.{_≡_, subst, sym, ap, _∙_}
 use native.Mathlib.Omega.{arith}
 use lib.Dec.{ltb}
-use lib.IntN.{ℤ, pos, negsuc, natAbs, _+ℤ_, subℕ, pos-ne-negsuc}
+use lib.IntN.{ℤ, pos, negsuc, natAbs, _+ℤ_, pos-ne-negsuc}
 use lib.ListN.{getD}
 use borrow.Author.Tests.{ltb-false}
 use Rattle.calendar.proofs.Cases.{by-bool}
@@ -12,10 +12,10 @@ use Rattle.comparison.specs.declared.data.Comparison.{Comparison}
 use Rattle.comparison.specs.declared.data.Difference.{Difference}
 use Rattle.comparison.specs.declared.data.Difference.the-variants.{Days, FirstLacks, SecondLacks}
 use Rattle.comparison.specs.Comparisons.{unused, comparisonRefusal, comparisonOf}
-use Rattle.comparison.specs.WhereSystemsDiffer.{DaysApart, Says, differenceIn}
+use Rattle.comparison.specs.WhereSystemsDiffer.{Says, differenceIn}
 use Rattle.comparison.proofs.MonthsCompared.{head-small}
 use Rattle.comparison.proofs.Refusals.{carries, first-in-scope, second-in-scope}
-use Rattle.comparison.proofs.ComparisonRight.{none-past-thirteenth, thirteen-at-most, says-what-it-stands-for}
+use Rattle.comparison.proofs.ComparisonRight.{first-to-thirteenth, thirteen-at-most, says-what-it-stands-for}
 use Rattle.comparison_pages.specs.Printable.{SmallDays, PlacePrintable, Printable}
 
 -- A difference is no larger than the two numbers together.
@@ -48,7 +48,7 @@ module _ (first second n : ℕ) (s : InScope first n) (t : InScope second n) whe
       record {
         thirteen-at-most = thirteen-at-most first second n s t;
         place = λ i h.
-            let told = none-past-thirteenth first second n s t i h in
+            let told = first-to-thirteenth first second n s t i h in
             record {
               from-first = told .0;
               to-thirteenth = told .1;

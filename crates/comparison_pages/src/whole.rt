@@ -1,5 +1,4 @@
 // The page of a comparison: what is compared, and the places.
-ghost use mathlib.Core.Path.{_≡_};
 ghost use Prim.Native.Nat.{_+_, _≤_};
 ghost use lib.ListN.{length};
 ghost use Rattle.text.specs.Wrote.{Wrote};

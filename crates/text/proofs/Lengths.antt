@@ -1,13 +1,12 @@
 -- How long the pieces of a line are at most.
-use Prim.Native.Nat.{ℕ, _+_, _*_, _/_, _%_, _≤_}
-use mathlib.Core.Path.{ap, _∙_}
+use Prim.Native.Nat.{ℕ, _+_, _*_, _/_, _≤_}
 use mathlib.Core.List.{List, [], _∷_, _++_}
 use native.Mathlib.Omega.{arith}
 use lib.ListN.{length, length-append}
 use borrow.Author.Tests.{lt-ltb, le-ltb, eq-eqb, ne-eqb}
 use Rattle.calendar.proofs.Rising.{by-order}
-use Rattle.text.specs.Decimal.{twoDigits, below100, decimal}
-use Rattle.text.specs.Piece.{word, field, letterOf, year, star, month, fields, newline, line}
+use Rattle.text.specs.Decimal.{below100, decimal}
+use Rattle.text.specs.Piece.{word, field, year, star, month, fields, newline, line}
 
 below-100-length : (n : ℕ) → length (below100 n) ≤ 2
 below-100-length n =

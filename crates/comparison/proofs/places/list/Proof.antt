@@ -39,7 +39,11 @@ loop-less : tie.Need-loop-less Inv-loop μ-loop
 loop-less c = search needs
 
 loop-again : tie.Need-loop-again Inv-loop μ-loop
-loop-again c = (omega arith, omega arith, search listed-one-more)
+loop-again c =
+    let turn = c .before .before in
+    let so-far = turn .before .before .loop .inv in
+    let listed = listed-one-more _ _ (so-far .2) (turn .is-listed .ensures) (c .before .if1 .taken) (c .listed-at .ensures) in
+    (omega arith, omega arith, listed (omega arith))
 
 loop-less-2 : tie.Need-loop-less-2 Inv-loop μ-loop
 loop-less-2 c = search needs

@@ -1,11 +1,9 @@
--- Two laws that users rely on, for every input: a system compared with itself lists nothing, and two systems may be
--- compared either way round.
-use Prim.Native.Nat.{ℕ, zero, suc, _+_, _-_, _≤_, _<_}
-use mathlib.Core.Path.{_≡_, refl, sym, subst, ap, ap₂, _∙_}
-use mathlib.Core.Bool.{Bool, true, false, true≢false, not, cond, _&&_, _||_}
+-- Two systems compared the other way round.
+use Prim.Native.Nat.{ℕ, zero, suc, _+_, _-_}
+use mathlib.Core.Path.{_≡_, refl, sym, ap, ap₂, _∙_}
+use mathlib.Core.Bool.{Bool, true, false, true≢false, not, cond}
 use mathlib.Core.List.{List, [], _∷_, _++_, map, map-append}
-use native.Mathlib.Omega.{arith}
-use lib.Dec.{ltb, eqb}
+use lib.Dec.{eqb}
 use lib.IntN.{ℤ, pos, negℤ, _+ℤ_, _-ℤ_, negℤ-+ℤ, negℤ-negℤ, +ℤ-comm}
 use lib.ListN.{length, replicate, length-map}
 use borrow.Author.Tests.{eq-eqb, ne-eqb, eqb-true, eqb-false}
@@ -16,9 +14,7 @@ use Rattle.reckoning.specs.ComputedRefusals as Rules
 use Rattle.reckoning.specs.ComputedRefusals.{wrongSystem, wrongYear}
 use Rattle.reckoning.specs.Requests.{yearOf}
 use Rattle.reckoning.specs.YearValue.{headIn, numberIn, leapIn}
-use Rattle.comparison.specs.declared.data.Comparison.{Comparison}
-use Rattle.comparison.specs.declared.data.Difference.{Difference}
-use Rattle.comparison.specs.declared.data.Difference.the-variants.{Days, FirstLacks, SecondLacks}
+use Rattle.comparison.specs.declared.data.Difference.the-variants.{Days}
 use Rattle.comparison.specs.declared.data.Listed.{Listed}
 use Rattle.comparison.specs.Comparisons.{comparisonRefusal, sameMonth, isListed, differenceAt, listedAt, placesUpTo}
 use Rattle.comparison.specs.Comparisons.{unused, thirteen, listing, noComparison, comparisonOf}
@@ -28,40 +24,6 @@ use Rattle.comparison.proofs.Listing.{one-more, no-more}
 use Rattle.comparison.proofs.PlaceCases.{by-months, listed-both, listed-first, listed-second, listed-none}
 use Rattle.comparison.proofs.PlaceCases.{days-between, first-lacks, second-lacks}
 
--- A system with itself.
-module _ (a : Year) where
-  same-itself : (i : ℕ) → sameMonth a a i ≡ true
-  unfolding sameMonth
-  same-itself i =
-      simp
-      (eq-eqb (numberIn a i) (numberIn a i) refl, eq-eqb (leapIn a i) (leapIn a i) refl, eq-eqb (headIn a i) (headIn a i) refl)
-
-  none-listed : (i : ℕ) → isListed a a i ≡ false
-  none-listed i =
-      by-months a a i
-      (λ p q. listed-both a a i p q ∙ ap not (same-itself i))
-      (λ p q. absurd (omega arith))
-      (λ p q. absurd (omega arith))
-      (λ p q. listed-none a a i p q)
-
-  no-places : (n : ℕ) → placesUpTo a a n ≡ []
-  unfolding placesUpTo
-  no-places zero = refl
-  no-places (suc n) = no-more a a n (none-listed n) ∙ no-places n
-
-  listing-itself : listing a a ≡ noComparison 0
-  unfolding listing
-  listing-itself = ap (λ places. record { refusal = 0; count = length places; places = thirteen places }) (no-places 13)
-
-pub itself-lists-nothing : (system year : ℕ) → comparisonOf system system year ≡ noComparison (comparisonRefusal system system year)
-unfolding comparisonOf
-itself-lists-nothing system year =
-    let refusal = comparisonRefusal system system year in
-    by-bool (eqb refusal 0)
-    (λ e. simp e (listing-itself (yearOf system year) ∙ ap noComparison (sym (eqb-true refusal 0 e))))
-    (λ e. simp e)
-
--- Two the other way round.
 eqb-swapped : (x y : ℕ) → eqb y x ≡ eqb x y
 eqb-swapped x y =
     by-bool (eqb x y)
