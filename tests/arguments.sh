@@ -26,7 +26,9 @@ about() {
     with --help
     cp "$scratch/out" "$scratch/help"
     told "$program --help" 0 "$scratch/help" ''
-    grep -qF -- "${usage#usage: }" "$scratch/help" || fail "$program --help does not tell its arguments"
+    while read -r form; do
+        grep -qxF -- "$form" "$scratch/help" || fail "$program --help does not tell: $form"
+    done <<< "${3:-${usage#usage: }}"
     WRITE_MOST=1 INTERRUPTS=2 with --help
     told "$program --help in pieces" 0 "$scratch/help" ''
 }
@@ -79,7 +81,9 @@ wrong x
 wrong x y
 wrong examples/case-9.bin
 
-about almanac 'usage: almanac year SYSTEM FIRST [LAST]'
+about almanac 'usage: almanac year SYSTEM FIRST [LAST] | almanac compare FIRST SECOND YEAR [LAST]' \
+    'almanac year SYSTEM FIRST [LAST]
+almanac compare FIRST SECOND YEAR [LAST]'
 unwritable
 unlike
 wrong
@@ -105,5 +109,24 @@ wrong year 0x1 1092
 wrong year 1 1092 1094 1096
 wrong year 1 1092 --help
 wrong year --help
+wrong Compare 1 2 1094
+wrong compare
+wrong compare 1
+wrong compare 1 2
+wrong compare 1 2 ''
+wrong compare '' 2 1094
+wrong compare 1 '' 1094
+wrong compare one 2 1094
+wrong compare 1 two 1094
+wrong compare 1 2 MXCIV
+wrong compare 1 2 1094 x
+wrong compare 1 2 1094 ''
+wrong compare -1 2 1094
+wrong compare 1 +2 1094
+wrong compare 1 2 -1094
+wrong compare 1 2 ' 1094'
+wrong compare 1 2 1094 1096 1098
+wrong compare 1 2 1094 --help
+wrong compare --help
 
 echo "arguments: told, answered or sent back with the usage, and nothing is read"

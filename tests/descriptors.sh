@@ -44,10 +44,13 @@ takes_nothing 'build/chiselbrow --help'
 takes_nothing 'build/chiselbrow --version'
 takes_nothing 'build/almanac year 1 1094'
 takes_nothing 'build/almanac year 1 3001'
+takes_nothing 'build/almanac compare 1 2 1094'
+takes_nothing 'build/almanac compare 1 3 1094'
 takes_nothing 'build/almanac --help'
 takes_nothing 'build/almanac --version'
 expect 'build/chiselbrow < /dev/null > /dev/full' 0 $none ''
 expect 'build/almanac year 1 1094 1092 > /dev/full' 0 $none ''
+expect 'build/almanac compare 1 2 1094 1092 > /dev/full' 0 $none ''
 
 # A pipe that is filled up and does not block has taken the beginning of what is right.
 filled_up() {

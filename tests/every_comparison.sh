@@ -13,8 +13,8 @@ written() {
     told "compare $*, as written out" 0 "$scratch/expected" ''
 }
 
-# Leap months that differ; heads that differ; a month that one system lacks. No place of these years differs in its number
-# alone.
+# Leap marks that differ, heads that differ, a month that one system lacks. A number that differs alone is in no year from
+# 1 to 3000, so that no test here can tell whether it is looked at: the proof does (must-fail number_not_compared).
 written 1 2 1094 << 'END'
 compare G J 1094 2
 place 7 5 2120778 4* 2120778 0
@@ -42,6 +42,40 @@ END
 written 2 1 1832 << 'END'
 compare J G 1832 1
 place 13 10* 2390511 - - second
+END
+
+# Thirteen places: Jiyuan begins this year a month later.
+written 1 2 1833 << 'END'
+compare G J 1833 13
+place 1 11 2390511 11 2390540 29
+place 2 11* 2390540 12 2390570 30
+place 3 12 2390570 1 2390599 29
+place 4 1 2390599 2 2390629 30
+place 5 2 2390629 3 2390658 29
+place 6 3 2390658 4 2390688 30
+place 7 4 2390688 5 2390717 29
+place 8 5 2390717 6 2390747 30
+place 9 6 2390747 7 2390776 29
+place 10 7 2390776 8 2390806 30
+place 11 8 2390806 9 2390836 30
+place 12 9 2390836 10 2390865 29
+place 13 10 2390865 - - second
+END
+written 2 1 1833 << 'END'
+compare J G 1833 13
+place 1 11 2390540 11 2390511 -29
+place 2 12 2390570 11* 2390540 -30
+place 3 1 2390599 12 2390570 -29
+place 4 2 2390629 1 2390599 -30
+place 5 3 2390658 2 2390629 -29
+place 6 4 2390688 3 2390658 -30
+place 7 5 2390717 4 2390688 -29
+place 8 6 2390747 5 2390717 -30
+place 9 7 2390776 6 2390747 -29
+place 10 8 2390806 7 2390776 -30
+place 11 9 2390836 8 2390806 -30
+place 12 10 2390865 9 2390836 -29
+place 13 - - 10 2390865 first
 END
 
 # A system does not differ from itself.

@@ -149,4 +149,12 @@ build/independent almanac "${command[@]:2}" > "$scratch/right"
 plain 0 2
 every_fault write "$ENOSPC"
 
+# Comparisons: 13 places, none, and a refusal.
+command=(build/almanac compare 1 2 2824 3001)
+build/independent compare "${command[@]:2}" > "$scratch/right"
+export WRITE_MOST=300
+plain 0 2
+every_fault write "$ENOSPC"
+unset WRITE_MOST
+
 echo "faults: $runs runs go on or stop as they must"

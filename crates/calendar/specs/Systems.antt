@@ -1,5 +1,6 @@
 -- The two systems: paper 01, "Constants".
 use Prim.Native.Nat.{ℕ, _+_, _-_}
+use mathlib.Core.Path.{_≡_}
 use mathlib.Core.Bool.{cond}
 use lib.Dec.{eqb}
 use Rattle.calendar.specs.declared.data.Constants.{Constants}
@@ -44,3 +45,7 @@ yearsElapsed c a = c .elapsed + a - c .common
 -- Row "register day": a count day less the register's own anchor.
 abbrev pub registerDay : Constants → ℕ → ℕ
 registerDay c d = d - c .anchor
+
+-- The same as a statement, which no difference cuts at 0: r is the register day of count day d.
+abbrev pub IsRegisterDay : Constants → ℕ → ℕ → Type 0
+IsRegisterDay c r d = r + c .anchor ≡ d

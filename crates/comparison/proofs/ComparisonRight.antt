@@ -1,28 +1,39 @@
 -- Where do the two systems part? Paper 02, Q-1, in the order of its sentences: what a comparison answers is so by the
--- reckoning, for all systems and years in scope. The last two laws hold for every input.
+-- reckoning, for all systems and years in scope; what is said of refusals, and the last laws, for every input.
 use Prim.Native.Nat.{ℕ, _-_, _≤_, _<_}
 use mathlib.Core.Path.{_≡_, sym, subst, ap, _∙_}
 use native.Mathlib.Omega.{arith}
-use lib.ListN.{length, getD}
-use borrow.Author.Tests.{ne-eqb}
+use lib.IntN.{pos, _-ℤ_}
+use lib.ListN.{length}
 use Rattle.calendar.specs.ExactlyOne.{ExactlyOne}
+use Rattle.calendar.specs.Systems.{constantsOf, yearsElapsed}
+use Rattle.calendar.specs.Year.{Span, monthCount}
 use Rattle.reckoning.specs.declared.data.Year.{Year}
 use Rattle.reckoning.specs.Requests.{yearOf}
 use Rattle.reckoning.specs.Scope.{InScope}
 use Rattle.reckoning.specs.WordedRefusals.{FirstOf}
 use Rattle.comparison.specs.declared.data.Comparison.{Comparison}
-use Rattle.comparison.specs.declared.data.Difference.the-variants.{FirstLacks, SecondLacks}
-use Rattle.comparison.specs.Comparisons.{comparisonRefusal, unused, listing, noComparison, comparisonOf}
-use Rattle.comparison.specs.WhereSystemsDiffer.{MonthAt, NoMonthAt, SystemsDiffer, Says, GivesDays}
+use Rattle.comparison.specs.declared.data.Difference.the-variants.{Days, FirstLacks, SecondLacks}
+use Rattle.comparison.specs.Comparisons.{comparisonRefusal, listing, comparisonOf}
+use Rattle.comparison.specs.WhereSystemsDiffer.{MonthAt, NoMonthAt, SystemsDiffer, EachSays, ZerosFrom}
 use Rattle.comparison.specs.WhereSystemsDiffer.{placeIn, differenceIn, ListsAs, comparisonRows}
 use Rattle.comparison.specs.Swapped.{swapped}
 use Rattle.comparison.proofs.Listing.{before, before-most, in-order, stands-within, stands-alone}
-use Rattle.comparison.proofs.MonthsCompared.{differ-if-listed, says-how, listed-if-differ}
-use Rattle.comparison.proofs.Entries.{is-listing, counted, entry-at, thirteen-places, unused-entry}
-use Rattle.comparison.proofs.Entries.{gives-days, lacks-first, lacks-second}
+use Rattle.comparison.proofs.MonthsCompared as Months
+use Rattle.comparison.proofs.MonthsCompared.{differ-if-listed, listed-if-differ}
+use Rattle.comparison.proofs.Entries as Entries
+use Rattle.comparison.proofs.Entries.{is-listing, counted, entry-at, case-of-both, case-of-second, case-of-first}
 use Rattle.comparison.proofs.Refusals as Refused
 use Rattle.comparison.proofs.Itself as Itself
 use Rattle.comparison.proofs.Swapping as Swapping
+
+-- Each place from 1 up to how many months the year has is its month in that order, and there is no other.
+module _ (system year : ℕ) (s : InScope system year) (y : Span (constantsOf system) (yearsElapsed (constantsOf system) year)) where
+  pub has-its-months : (place : ℕ) → 1 ≤ place → place ≤ monthCount y → MonthAt system year place
+  has-its-months = Months.has-its-months system year s y
+
+  pub has-no-other : (place : ℕ) → monthCount y < place → NoMonthAt system year place
+  has-no-other = Months.has-no-other system year s y
 
 module _ (first second year : ℕ) (s : InScope first year) (t : InScope second year) where
   abbrev v : Comparison
@@ -42,7 +53,7 @@ module _ (first second year : ℕ) (s : InScope first year) (t : InScope second 
       subst (SystemsDiffer first second year) (sym (e .place-is))
       (differ-if-listed first second year s t (e .stands .place) (e .stands .listed))
 
-  -- and listed once,
+  -- and once,
   pub listed-where-differ : (place : ℕ) → SystemsDiffer first second year place → ExactlyOne (ListsAs v place)
   listed-where-differ place d =
       let count = counted first second year s t in
@@ -69,7 +80,7 @@ module _ (first second year : ℕ) (s : InScope first year) (t : InScope second 
       let rises = in-order a b (e .stands .place) (f .stands .place) (omega (arith, e .stands .stands, f .stands .stands)) in
       omega (arith, e .place-is, f .place-is)
 
-  -- and none is past the thirteenth.
+  -- none past the thirteenth.
   pub first-to-thirteenth : (i : ℕ) → i < v .count → (1 ≤ placeIn v i) × (placeIn v i ≤ 13)
   first-to-thirteenth i h =
       let e = entry-at first second year s t i h in (omega (arith, e .place-is), omega (arith, e .place-is, e .stands .within))
@@ -77,52 +88,60 @@ module _ (first second year : ℕ) (s : InScope first year) (t : InScope second 
   pub thirteen-at-most : v .count ≤ 13
   thirteen-at-most = omega (arith, counted first second year s t, before-most a b 13)
 
-  -- What is said of a place is what its case stands for.
-  pub says-what-it-stands-for : (i : ℕ) → i < v .count → Says first second year (placeIn v i) (differenceIn v i)
-  says-what-it-stands-for i h =
-      let e = entry-at first second year s t i h in
-      subst (λ l. Says first second year (l .place) (l .difference)) (sym (e .is))
-      (says-how first second year s t (e .stands .place) (e .stands .listed))
-
-  -- So where both exist it gives the head of the second minus the head of the first, a signed count of days;
+  -- Where both exist it states the head of the second minus the head of the first, a signed count of days;
   pub both-exist : (i : ℕ) → i < v .count → (m : MonthAt first year (placeIn v i)) → (n : MonthAt second year (placeIn v i))
-      → GivesDays (differenceIn v i) (m .head) (n .head)
-  both-exist i h m n = gives-days first second year s t (placeIn v i) (differenceIn v i) (says-what-it-stands-for i h) m n
+      → differenceIn v i ≡ Days (pos (n .head) -ℤ pos (m .head))
+  both-exist i h m n =
+      case-of-both first second year s t (placeIn v i) (differenceIn v i) (Entries.each-says first second year i h) m n
 
-  -- and where one is missing, it says which.
+  -- where one is missing, it says which.
   pub first-missing : (i : ℕ) → i < v .count → NoMonthAt first year (placeIn v i) → differenceIn v i ≡ FirstLacks
-  first-missing i h none = lacks-first first second year s t (placeIn v i) (differenceIn v i) (says-what-it-stands-for i h) none
+  first-missing i h none =
+      case-of-second first second year s t (placeIn v i) (differenceIn v i) (Entries.each-says first second year i h) none
 
   pub second-missing : (i : ℕ) → i < v .count → NoMonthAt second year (placeIn v i) → differenceIn v i ≡ SecondLacks
-  second-missing i h none = lacks-second first second year s t (placeIn v i) (differenceIn v i) (says-what-it-stands-for i h) none
+  second-missing i h none =
+      case-of-first first second year s t (placeIn v i) (differenceIn v i) (Entries.each-says first second year i h) none
 
-  -- It carries no refusal, and its unused places are zeros.
+  -- It carries no refusal, and after what it lists are zeros.
   pub not-refused : v .refusal ≡ 0
   unfolding listing
   not-refused = ap (λ w. w .refusal) (is-listing first second year s t)
 
-  pub has-thirteen-places : length (v .places) ≡ 13
-  has-thirteen-places = ap (λ w. length (w .places)) (is-listing first second year s t) ∙ thirteen-places a b
+  pub thirteen-entries : length (v .places) ≡ 13
+  thirteen-entries = ap (λ w. length (w .places)) (is-listing first second year s t) ∙ Entries.thirteen-entries a b
 
-  pub unused-are-zeros : (i : ℕ) → v .count ≤ i → getD (v .places) i unused ≡ unused
-  unused-are-zeros i h =
-      ap (λ w. getD (w .places) i unused) (is-listing first second year s t)
-      ∙ unused-entry a b i (omega (arith, counted first second year s t))
+  pub unused-are-zeros : ZerosFrom v (v .count)
+  unused-are-zeros =
+      subst (λ n. ZerosFrom v n) (sym (counted first second year s t))
+      (subst (λ w. ZerosFrom w (before a b 13)) (sym (is-listing first second year s t)) (Entries.zeros-after a b))
+
+-- Whatever is asked, what is said of a place is what its case stands for. So where days are told, the second head is the
+-- first head and those days, as integers.
+pub says-what-it-stands-for : (first second year : ℕ) → EachSays first second year (comparisonOf first second year)
+says-what-it-stands-for = Entries.each-says
 
 -- Either system wrong is refused SYSTEM, then the year YEAR;
-pub refusal-is-the-first : (first second year : ℕ) → FirstOf (comparisonRows first second year) (comparisonRefusal first second year)
-refusal-is-the-first = Refused.refusal-first
+pub refusal-is-the-first : (first second year : ℕ)
+    → FirstOf (comparisonRows first second year) ((comparisonOf first second year) .refusal)
+refusal-is-the-first first second year =
+    subst (FirstOf (comparisonRows first second year)) (sym (Refused.carries first second year))
+    (Refused.refusal-first first second year)
 
--- refused, it carries its number and lists nothing.
-pub refused-lists-nothing : (first second year : ℕ) → (comparisonRefusal first second year ≡ 0 → ⊥)
-    → comparisonOf first second year ≡ noComparison (comparisonRefusal first second year)
-unfolding comparisonOf
-refused-lists-nothing first second year some = simp (ne-eqb (comparisonRefusal first second year) 0 some)
+-- refused, it lists nothing.
+pub refused-lists-nothing : (first second year : ℕ) → ((comparisonOf first second year) .refusal ≡ 0 → ⊥)
+    → ((comparisonOf first second year) .count ≡ 0) × ZerosFrom (comparisonOf first second year) 0
+refused-lists-nothing first second year some =
+    let blank = Refused.blank first second year (λ z. some (Refused.carries first second year ∙ z)) in
+    (ap (λ v. v .count) blank, subst (λ v. ZerosFrom v 0) (sym blank) (Entries.blank-zeros (comparisonRefusal first second year)))
 
 -- A system compared with itself lists nothing.
-pub itself-lists-nothing : (system year : ℕ) → comparisonOf system system year ≡ noComparison (comparisonRefusal system system year)
-itself-lists-nothing = Itself.itself-lists-nothing
+pub itself-lists-nothing : (system year : ℕ)
+    → ((comparisonOf system system year) .count ≡ 0) × ZerosFrom (comparisonOf system system year) 0
+itself-lists-nothing system year =
+    let blank = Itself.itself-lists-nothing system year in
+    (ap (λ v. v .count) blank, subst (λ v. ZerosFrom v 0) (sym blank) (Entries.blank-zeros (comparisonRefusal system system year)))
 
--- Two systems compared the other way round: each sign turns, and which lacks a month is exchanged.
+-- Two systems compared the other way round: each sign turns, which lacks a month is exchanged, and nothing else changes.
 pub the-other-way-round : (first second year : ℕ) → comparisonOf second first year ≡ swapped (comparisonOf first second year)
 the-other-way-round = Swapping.swapped-answer

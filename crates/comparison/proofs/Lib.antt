@@ -15,5 +15,7 @@ pub mod Entries
 pub mod Itself
 -- Two systems the other way round.
 pub mod Swapping
+-- Three years, computed.
+pub mod Examples
 -- What a comparison answers is so by the reckoning.
 pub mod ComparisonRight

@@ -9,6 +9,7 @@ use Rattle.calendar.specs.declared.data.Constants.{Constants}
 use Rattle.calendar.specs.Systems.{constantsOf, yearsElapsed}
 use Rattle.calendar.specs.ClosedForms.{monthNumber, leapMark}
 use Rattle.calendar.specs.Month.{monthHead, Bears, Marked}
+use Rattle.calendar.specs.Year.{Span, monthCount}
 use Rattle.calendar.proofs.Cases.{by-bool}
 use Rattle.calendar.proofs.EachSystem.{consistent}
 use Rattle.calendar.proofs.Numbers.{number-unique, mark-unique}
@@ -52,7 +53,7 @@ module _ (system year : ℕ) (s : InScope system year) where
         head = headIn months i;
         bears = subst (λ k. Bears c k (numberIn months i)) e (lists .number i h);
         marked = subst (λ k. Marked c k (leapIn months i)) e (lists .leap i h);
-        heads = lists .head i h ∙ ap (monthHead c) e;
+        head-is = lists .head i h ∙ ap (monthHead c) e;
       }
 
   pub record Agrees (place : ℕ) (m : MonthAt system year place) : Type 0 where
@@ -78,7 +79,7 @@ module _ (system year : ℕ) (s : InScope system year) where
             mark-unique c ok (m .marked)
             ∙ ap (leapMark c) k
             ∙ sym (mark-unique c ok (lists .leap (place - 1) within));
-        head-is = omega (arith, m .heads, lists .head (place - 1) within, ap (monthHead c) k);
+        head-is = omega (arith, m .head-is, lists .head (place - 1) within, ap (monthHead c) k);
       }
 
   pub one-head : (place : ℕ) (m n : MonthAt system year place) → m .head ≡ n .head
@@ -102,6 +103,23 @@ module _ (system year : ℕ) (s : InScope system year) where
       by-order (place - 1) (months .count)
       (λ h. let e : place - 1 + 1 ≡ place = omega arith in absurd (none (subst (MonthAt system year) e (month-at (place - 1) h))))
       (λ h. h)
+
+  -- Its months are all there, and no other, whichever way the year is bounded.
+  module _ (y : Span c (yearsElapsed c year)) where
+    counted : monthCount y ≡ months .count
+    counted =
+        let ok = consistent system in
+        let first = span-first c ok y ∙ sym (span-first c ok (lists .span)) in
+        let next = span-next c ok y ∙ sym (span-next c ok (lists .span)) in
+        omega (arith, lists .count)
+
+    pub has-its-months : (place : ℕ) → 1 ≤ place → place ≤ monthCount y → MonthAt system year place
+    has-its-months place from to =
+        let e : place - 1 + 1 ≡ place = omega arith in
+        subst (MonthAt system year) e (month-at (place - 1) (omega (arith, counted)))
+
+    pub has-no-other : (place : ℕ) → monthCount y < place → NoMonthAt system year place
+    has-no-other place past m = omega (arith, counted, (agrees place m) .within, m .from-first)
 
 not-is-true : (b : Bool) → not b ≡ true → b ≡ false
 not-is-true true e = absurd (true≢false (sym e))
@@ -133,8 +151,8 @@ module _ (first second year : ℕ) (s : InScope first year) (t : InScope second 
       (λ p q.
       subst (Says first second year (i + 1)) (sym (days-between a b i p q))
       (record {
-        month = month-at first year s i p;
-        other = month-at second year t i q;
+        of-first = month-at first year s i p;
+        of-second = month-at second year t i q;
         apart = sym (-ℤ-+ℤ-cancel (pos (headIn b i)) (pos (headIn a i))) ∙ +ℤ-comm (pos (headIn b i) -ℤ pos (headIn a i)) (pos (headIn a i));
       }))
       (λ p q.

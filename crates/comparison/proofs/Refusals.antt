@@ -7,7 +7,6 @@ use native.Mathlib.Omega.{arith}
 use borrow.Author.Tests.{eq-eqb, ne-eqb, eqb-true}
 use lib.Dec.{eqb}
 use Rattle.calendar.proofs.Cases.{by-bool}
-use Rattle.calendar.proofs.Rising.{by-order}
 use Rattle.reckoning.specs.declared.data.Year.{Year}
 use Rattle.reckoning.specs.RefusalNumbers.{SYSTEM, YEAR}
 use Rattle.reckoning.specs.ComputedRefusals.{Rule, _if_, wrongSystem, wrongYear, yearRefusal}
@@ -15,20 +14,10 @@ use Rattle.reckoning.specs.Scope.{InScope}
 use Rattle.reckoning.specs.WordedRefusals.{FirstOf}
 use Rattle.reckoning.specs.Requests.{yearOf}
 use Rattle.reckoning.proofs.RefusalCases.{accepted, in-scope, by-scope}
-use Rattle.reckoning.proofs.RefusedRequests.{year-blank}
-use Rattle.reckoning.proofs.MonthsRight.{year-holds}
+use Rattle.reckoning.proofs.MonthsRight.{year-carries}
 use Rattle.comparison.specs.declared.data.Comparison.{Comparison}
 use Rattle.comparison.specs.Comparisons.{comparisonRefusal, listing, noComparison, comparisonOf}
 use Rattle.comparison.specs.WhereSystemsDiffer.{comparisonRows}
-
--- A year's value carries its refusal.
-pub year-carries : (system year : ℕ) → (yearOf system year) .refusal ≡ yearRefusal system year
-year-carries system year =
-    by-order 0 (yearRefusal system year)
-    (λ some. ap (λ v. v .refusal) (year-blank system year (λ z. omega arith)))
-    (λ none.
-    let zero-refusal : yearRefusal system year ≡ 0 = omega arith in
-    (year-holds system year (accepted system year zero-refusal)) .accepted ∙ sym zero-refusal)
 
 -- Whether a rule applies.
 abbrev pub applies : Rule → Bool
@@ -88,6 +77,12 @@ module _ (first second year : ℕ) where
   carries =
       let refusal = comparisonRefusal first second year in
       by-bool (eqb refusal 0) (λ e. simp e (sym (eqb-true refusal 0 e))) (λ e. simp e)
+
+  -- Refused, it is blank.
+  pub blank : (comparisonRefusal first second year ≡ 0 → ⊥)
+      → comparisonOf first second year ≡ noComparison (comparisonRefusal first second year)
+  unfolding comparisonOf
+  blank some = simp (ne-eqb (comparisonRefusal first second year) 0 some)
 
   pub first-in-scope : comparisonRefusal first second year ≡ 0 → InScope first year
   first-in-scope none =

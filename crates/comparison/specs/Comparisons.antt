@@ -35,8 +35,7 @@ unfoldable pub isListed : Year → Year → ℕ → Bool
 isListed first second i =
     cond (hasMonth first i && hasMonth second i) (not (sameMonth first second i)) (hasMonth first i || hasMonth second i)
 
--- What each case stands for. Days: both have a month, and this is the second's head less the first's.
--- FirstLacks: the first has none. SecondLacks: the second has none.
+-- The case of a place that is listed: the second head less the first, or which of the two has no month there.
 unfoldable pub differenceAt : Year → Year → ℕ → Difference
 differenceAt first second i =
     cond (hasMonth first i)
@@ -52,11 +51,11 @@ unfoldable pub placesUpTo : Year → Year → ℕ → List Listed
 placesUpTo first second zero = []
 placesUpTo first second (suc n) = placesUpTo first second n ++ cond (isListed first second n) (listedAt first second n ∷ []) []
 
--- A place that is not used: zeros.
+-- An entry that is not used: zeros.
 abbrev pub unused : Listed
 unused = record { place = 0; difference = Days (pos 0) }
 
--- Thirteen places: those listed, and unused ones after them.
+-- Thirteen entries: those of the places listed, and unused ones after them.
 abbrev pub thirteen : List Listed → List Listed
 thirteen places = places ++ replicate (13 - length places) unused
 
@@ -66,7 +65,7 @@ listing first second =
     let places = placesUpTo first second 13 in
     record { refusal = 0; count = length places; places = thirteen places }
 
--- Refused: the number, and nothing listed.
+-- Nothing listed, with a refusal's number.
 abbrev pub noComparison : ℕ → Comparison
 noComparison refusal = record { refusal = refusal; count = 0; places = replicate 13 unused }
 

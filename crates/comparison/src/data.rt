@@ -1,12 +1,10 @@
 // What a comparison answers.
 
-// How two systems differ at a place of a year.
+// How two systems differ at a place of a year: the head of the second less the head of the first, in days, or which of
+// the two lacks a month there.
 pub enum Difference {
-    // The head of the second less the head of the first, in days.
     Days(i64),
-    // The first has no month there.
     FirstLacks,
-    // The second has no month there.
     SecondLacks,
 }
 
@@ -16,7 +14,8 @@ pub struct Listed {
     pub difference: Difference,
 }
 
-// The places where two systems differ in a year, in order: `count` of them. Unused places are zeros.
+// The places where two systems differ in a year, in order: `count` of them, then zeros. Refused, it carries the refusal
+// number and lists none.
 pub struct Comparison {
     pub refusal: u8,
     pub count: u8,

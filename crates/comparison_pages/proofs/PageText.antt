@@ -65,11 +65,11 @@ module _ {b a : List ℕ} {at e : ℕ} {compared : Comparison} (first second n :
   put-refused {rooms} h w =
       subst (λ v. Puts b at rooms (page-by first second n v) a e) is (simp (ne-eqb (compared .refusal) 0 h) w)
 
-  pub wrote-page : {m : List ℕ} {p : ℕ} {ours theirs : Year} → compared .refusal ≡ 0 → ours ≡ yearOf first n → theirs ≡ yearOf second n
+  pub wrote-page : {m : List ℕ} {p : ℕ} {of-first of-second : Year} → compared .refusal ≡ 0 → of-first ≡ yearOf first n → of-second ≡ yearOf second n
       → Wrote b at (compareLine first second n (compared .count)) m p
-      → Wrote m p (placeLines ours theirs compared) a e
+      → Wrote m p (placeLines of-first of-second compared) a e
       → Wrote b at (comparisonPage first second n) a e
   unfolding comparisonPage
-  wrote-page h ours-is theirs-is w v =
-      let places = wrote-as (ap₂ (λ f s. placeLines f s compared) ours-is theirs-is) v in
+  wrote-page h first-is second-is w v =
+      let places = wrote-as (ap₂ (λ f s. placeLines f s compared) first-is second-is) v in
       subst (λ x. Wrote b at (page-by first second n x) a e) is (simp (eq-eqb (compared .refusal) 0 h) (wrote-then w places))

@@ -36,9 +36,9 @@ module _ (first second n : ℕ) (s : InScope first n) (t : InScope second n) whe
   small place (Days days) says =
       omega (
         arith,
-        size-most (says .month .head) (says .other .head) days (says .apart),
-        head-small first n s place (says .month),
-        head-small second n t place (says .other),
+        size-most (says .of-first .head) (says .of-second .head) days (says .apart),
+        head-small first n s place (says .of-first),
+        head-small second n t place (says .of-second),
       )
   small place FirstLacks says = tt
   small place SecondLacks says = tt
@@ -52,7 +52,7 @@ module _ (first second n : ℕ) (s : InScope first n) (t : InScope second n) whe
             record {
               from-first = told .0;
               to-thirteenth = told .1;
-              small-days = small _ (differenceIn (comparisonOf first second n) i) (says-what-it-stands-for first second n s t i h);
+              small-days = small _ (differenceIn (comparisonOf first second n) i) (says-what-it-stands-for first second n i h);
             };
       }
 

@@ -14,7 +14,7 @@ use Rattle.comparison.specs.declared.data.Difference.the-variants.{Days, FirstL
 use Rattle.comparison.specs.declared.data.Listed.{Listed}
 use Rattle.comparison.specs.Comparisons.{hasMonth, unused, comparisonOf}
 use Rattle.text.specs.Decimal.{decimal}
-use Rattle.text.specs.Piece.{word, field, letterOf, year, month, numbered, line, refusedLine, textsUpTo}
+use Rattle.text.specs.Piece.{word, field, letterOf, year, month, numbered, newline, line, refusedLine, textsUpTo}
 
 -- "compare ", and the letter of the first system with a space after it.
 unfoldable pub lineStart : ℕ → List ℕ
@@ -46,7 +46,7 @@ differenceText FirstLacks = word (32 ∷ 102 ∷ 105 ∷ 114 ∷ 115 ∷ 116 ∷
 differenceText SecondLacks = word (32 ∷ 115 ∷ 101 ∷ 99 ∷ 111 ∷ 110 ∷ 100 ∷ [])
 
 unfoldable pub lineEnd : Difference → List ℕ
-lineEnd difference = differenceText difference ++ word (10 ∷ [])
+lineEnd difference = differenceText difference ++ word newline
 
 -- "place", its number, the month of each system, and how they differ.
 unfoldable pub placeLine : Year → Year → Listed → List ℕ

@@ -65,8 +65,8 @@ pub(crate) fn put(out: &mut [u8], at: usize, first: u32, second: u32, year: u32)
     if refusal != 0 {
         return text::refused(out, at, refusal);
     }
-    let ours = reckoning::year(first, year);
-    let theirs = reckoning::year(second, year);
+    let of_first = reckoning::year(first, year);
+    let of_second = reckoning::year(second, year);
     let at = compare_line(out, at, first, second, year, compared.count);
-    place_lines(out, at, ours, theirs, compared)
+    place_lines(out, at, of_first, of_second, compared)
 }

@@ -7,30 +7,21 @@ use Rattle.calendar.specs.Systems.{constantsOf, yearsElapsed}
 use Rattle.reckoning.specs.declared.data.Days.{Days}
 use Rattle.reckoning.specs.declared.data.Year.{Year}
 use Rattle.reckoning.specs.RefusalNumbers.{SYSTEM, YEAR}
-use Rattle.reckoning.specs.Requests.{yearIn, noYear, yearOf, daysIn, noDays, daysOf}
+use Rattle.reckoning.specs.Requests.{yearOf, daysIn, noDays, daysOf}
 use Rattle.reckoning.specs.YearValue.{Tiled, headIn}
 use Rattle.pages.specs.Printable.{Printable}
 use Rattle.reckoning.proofs.AnswerUnless.{refused-year, answered-year}
 use Rattle.reckoning.proofs.RegisterLaws.{register-length-most}
 use Rattle.reckoning.proofs.ScopeInRegister.{year-in-register}
-use Rattle.reckoning.proofs.MonthsRight.{year-tiled}
-use Rattle.reckoning.proofs.RefusalCases.{by-scope}
+use Rattle.reckoning.proofs.MonthsRight.{year-tiled, year-carries}
+use Rattle.reckoning.proofs.RefusalCases.{accepted, by-scope}
 
 pub head-rises : (months : Year) (i : ℕ) → Tiled months → i < months .count → headIn months i ≤ headIn months (i + 1)
 head-rises months i t h = ⊎-elim (λ e. omega arith) (λ e. omega arith) (t .days i h)
 
 -- A year that carries no refusal has months that tile it.
-module _ (system year : ℕ) (accepted : (yearOf system year) .refusal ≡ 0) where
-  carries : (refusal : ℕ) → yearOf system year ≡ noYear refusal → refusal ≡ 0
-  carries refusal e = sym (ap (λ v. v .refusal) e) ∙ accepted
-
-  accepted-tiled : Tiled (yearOf system year)
-  unfolding yearOf
-  accepted-tiled =
-      by-scope system year
-      (λ no-system e. absurd (omega (arith, carries SYSTEM (refused-year yearIn noYear system year SYSTEM e (omega arith)))))
-      (λ system-inside no-year e. absurd (omega (arith, carries YEAR (refused-year yearIn noYear system year YEAR e (omega arith)))))
-      (λ s. year-tiled system year s)
+accepted-tiled : (system year : ℕ) → (yearOf system year) .refusal ≡ 0 → Tiled (yearOf system year)
+accepted-tiled system year none = year-tiled system year (accepted system year (sym (year-carries system year) ∙ none))
 
 pub printable : {months : Year} (system year : ℕ) → months ≡ yearOf system year → months .refusal ≡ 0 → Printable months
 printable system year is accepted =

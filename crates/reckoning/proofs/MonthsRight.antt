@@ -25,9 +25,10 @@ use Rattle.reckoning.specs.ComputedRefusals.{yearRefusal}
 use Rattle.reckoning.specs.Requests.{asRegisterDay, headAt, numberAt, leapAt, noHeads, noMarks, monthsFrom, yearIn, noYear, yearOf}
 use Rattle.reckoning.specs.YearValue.{headIn, ListsMonths, Tiled}
 use Rattle.reckoning.proofs.FilledLaws.{filled-below, filled-past, filled-length, replicate-reads}
-use Rattle.reckoning.proofs.RefusalCases.{in-scope}
+use Rattle.reckoning.proofs.RefusalCases.{accepted, in-scope}
 use Rattle.reckoning.proofs.ScopeInRegister.{year-in-register}
 use Rattle.reckoning.proofs.AnswerUnless.{answered}
+use Rattle.reckoning.proofs.RefusedRequests.{year-blank}
 use Rattle.reckoning.proofs.RegisterLaws.{months-in-register}
 
 register-back : (c : Constants) (d : ℕ) → InRegister c d → registerDay c d + c .anchor ≡ d
@@ -184,3 +185,12 @@ module _ (system year : ℕ) (s : InScope system year) where
 
   pub year-tiled : Tiled (yearOf system year)
   year-tiled = tiled c (consistent system) (yearsElapsed c year) (yearOf system year) year-holds
+
+-- The value carries the refusal of its request.
+pub year-carries : (system year : ℕ) → (yearOf system year) .refusal ≡ yearRefusal system year
+year-carries system year =
+    by-order 0 (yearRefusal system year)
+    (λ some. ap (λ v. v .refusal) (year-blank system year (λ z. omega arith)))
+    (λ none.
+    let zero-refusal : yearRefusal system year ≡ 0 = omega arith in
+    (year-holds system year (accepted system year zero-refusal)) .accepted ∙ sym zero-refusal)

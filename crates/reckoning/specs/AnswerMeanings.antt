@@ -4,6 +4,7 @@ use Prim.Native.Nat.{ℕ, _+_, _*_, _≤_, _<_}
 use mathlib.Core.Path.{_≡_}
 use lib.ListN.{length, getD}
 use Rattle.calendar.specs.declared.data.Constants.{Constants}
+use Rattle.calendar.specs.Systems.{IsRegisterDay}
 use Rattle.calendar.specs.SixtyDayName.{nameOfCountDay}
 use Rattle.calendar.specs.Qi.{solsticeDay, solsticeRemainder, qi}
 use Rattle.calendar.specs.Year.{Span, yearHead, yearLength}
@@ -14,7 +15,7 @@ use Rattle.reckoning.specs.declared.data.Sheet.{Sheet}
 -- The solstice of year n.
 pub record IsSolstice (c : Constants) (n : ℕ) (v : Solstice) : Type 0 where
   pub accepted : v .refusal ≡ 0
-  pub day : v .day .0 + c .anchor ≡ solsticeDay c n
+  pub day : IsRegisterDay c (v .day .0) (solsticeDay c n)
   pub remainder : v .remainder ≡ solsticeRemainder c n
 
 -- Qi i of year n: its day, parts and small units together are its moment, to the last small unit.

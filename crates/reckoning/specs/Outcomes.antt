@@ -2,7 +2,7 @@
 use Prim.Native.Nat.{ℕ, _+_, _-_}
 use mathlib.Core.Path.{_≡_}
 use Rattle.calendar.specs.Inside.{Inside}
-use Rattle.calendar.specs.Systems.{constantsOf, yearsElapsed}
+use Rattle.calendar.specs.Systems.{constantsOf, yearsElapsed, IsRegisterDay}
 use Rattle.calendar.specs.Month.{monthHead, InMonth, monthLength}
 use Rattle.calendar.specs.Year.{Span, yearHead, yearLength, MonthNumbered}
 use Rattle.reckoning.specs.declared.data.Days.{Days}
@@ -17,7 +17,7 @@ pub record DaysFound (system year : ℕ) (v : Days) : Type 0 where
   pub in-scope : InScope system year
   pub span : Span (constantsOf system) (yearsElapsed (constantsOf system) year)
   pub not-refused : v .refusal ≡ 0
-  pub head-is : v .head .0 + constantsOf system .anchor ≡ yearHead span
+  pub head-is : IsRegisterDay (constantsOf system) (v .head .0) (yearHead span)
   pub length-is : v .length ≡ yearLength span
 
 -- Refused SYSTEM, then YEAR; or answered.
@@ -34,7 +34,7 @@ pub record MonthFound (system year number leap : ℕ) (v : Month) : Type 0 where
   pub k : ℕ
   pub numbered : MonthNumbered (constantsOf system) (yearsElapsed (constantsOf system) year) number leap k
   pub not-refused : v .refusal ≡ 0
-  pub head-is : v .head .0 + constantsOf system .anchor ≡ monthHead (constantsOf system) k
+  pub head-is : IsRegisterDay (constantsOf system) (v .head .0) (monthHead (constantsOf system) k)
   pub length-is : v .length ≡ monthLength (constantsOf system) k
 
 -- Refused SYSTEM, then YEAR, then MONTH; or answered.

@@ -5,6 +5,7 @@ use mathlib.Core.Logic.{_⊎_}
 use lib.ListN.{length, getD}
 use Rattle.calendar.specs.declared.data.Constants.{Constants}
 use Rattle.calendar.specs.ExactlyOne.{ExactlyOne}
+use Rattle.calendar.specs.Systems.{IsRegisterDay}
 use Rattle.calendar.specs.Month.{monthHead, Bears, Marked}
 use Rattle.calendar.specs.Year.{Span, monthCount, nextHead}
 use Rattle.reckoning.specs.declared.data.Year.{Year}
@@ -21,14 +22,14 @@ abbrev pub leapIn : Year → ℕ → ℕ
 leapIn v i = getD (v .leaps) i 0
 
 -- The value holds the months of year n by the reckoning: their count, in order each head, number and leap mark, then
--- the next year's head; unused places are 0. A register day is a count day less the anchor.
+-- the next year's head; unused places are 0.
 pub record ListsMonths (c : Constants) (n : ℕ) (v : Year) : Type 0 where
   pub accepted : v .refusal ≡ 0
   pub places : (length (v .heads) ≡ 14) × (length (v .numbers) ≡ 14) × (length (v .leaps) ≡ 14)
   pub span : Span c n
   pub count : v .count ≡ monthCount span
-  pub head : (i : ℕ) → i < v .count → headIn v i + c .anchor ≡ monthHead c (span .first + i)
-  pub next : headIn v (v .count) + c .anchor ≡ nextHead span
+  pub head : (i : ℕ) → i < v .count → IsRegisterDay c (headIn v i) (monthHead c (span .first + i))
+  pub next : IsRegisterDay c (headIn v (v .count)) (nextHead span)
   pub number : (i : ℕ) → i < v .count → Bears c (span .first + i) (numberIn v i)
   pub leap : (i : ℕ) → i < v .count → Marked c (span .first + i) (leapIn v i)
   pub unused-head : (i : ℕ) → v .count < i → headIn v i ≡ 0
