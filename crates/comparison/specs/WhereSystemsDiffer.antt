@@ -16,8 +16,8 @@ use Rattle.comparison.specs.declared.data.Difference.{Difference}
 use Rattle.comparison.specs.declared.data.Difference.the-variants.{Days, FirstLacks, SecondLacks}
 use Rattle.comparison.specs.Comparisons.{unused}
 
--- Place p of a year, from 1, is its p-th month, counted from the month that the year begins with. It has that month's
--- number, leap mark and head, which is told as a register day.
+-- Place p of a year, from 1, is its p-th month, counted from the month that the year begins with (place is the customer's
+-- own term). It has that month's number, leap mark and head, which is told as a register day.
 pub record MonthAt (system year place : ℕ) : Type 0 where
   pub span : Span (constantsOf system) (yearsElapsed (constantsOf system) year)
   pub from-first : 1 ≤ place
