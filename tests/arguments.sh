@@ -81,8 +81,8 @@ wrong x
 wrong x y
 wrong examples/case-9.bin
 
-about almanac 'usage: almanac year SYSTEM FIRST [LAST] | almanac compare FIRST SECOND YEAR [LAST]' \
-    'almanac year SYSTEM FIRST [LAST]
+about almanac 'usage: almanac year SYSTEM YEAR [LAST] | almanac compare FIRST SECOND YEAR [LAST] (see almanac --help)' \
+    'almanac year SYSTEM YEAR [LAST]
 almanac compare FIRST SECOND YEAR [LAST]'
 unwritable
 unlike
@@ -118,6 +118,7 @@ wrong compare '' 2 1094
 wrong compare 1 '' 1094
 wrong compare one 2 1094
 wrong compare 1 two 1094
+wrong compare G J 1094
 wrong compare 1 2 MXCIV
 wrong compare 1 2 1094 x
 wrong compare 1 2 1094 ''

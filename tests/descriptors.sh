@@ -62,7 +62,7 @@ filled_up() {
 for _ in {1..5000}; do echo "$scratch/records"; done | xargs cat > "$scratch/many_records"
 for _ in {1..5000}; do echo "$scratch/lines"; done | xargs cat > "$scratch/many_lines"
 filled_up 'build/chiselbrow < "$scratch/many_records"' "$scratch/many_lines"
-build/independent almanac 2 1 100 > "$scratch/pages"
+build/independent year 2 1 100 > "$scratch/pages"
 filled_up 'build/almanac year 2 1 100' "$scratch/pages"
 
 # Inputs that give nothing, or nothing more. A record that has begun is not told as refused.
@@ -73,7 +73,7 @@ cat "$scratch/records" >&5
 expect 'build/chiselbrow <&5' 1 "$scratch/lines" 'chiselbrow: standard input: Resource temporarily unavailable'
 { cat "$scratch/records" && printf '\x09\0\x04'; } >&5
 expect 'build/chiselbrow <&5' 1 "$scratch/lines" 'chiselbrow: standard input: Resource temporarily unavailable'
-build/independent almanac 1 1094 > "$scratch/page"
+build/independent year 1 1094 > "$scratch/page"
 expect 'build/almanac year 1 1094 <&-' 0 "$scratch/page" ''
 
 # A standard error that takes nothing changes neither the status nor the output.

@@ -2,7 +2,7 @@
 # The almanac's comparisons of every pair of systems in every year, and those that it must refuse.
 set -euo pipefail
 cd "$(dirname "$0")/.."
-name=every_comparison request=compare check=compare
+name=every_comparison request=compare
 . tests/run.bash
 . tests/requests.bash
 

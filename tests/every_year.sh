@@ -2,7 +2,7 @@
 # The almanac on every year of both systems, and on requests that it must refuse.
 set -euo pipefail
 cd "$(dirname "$0")/.."
-name=every_year request=year check=almanac
+name=every_year request=year
 . tests/run.bash
 . tests/requests.bash
 

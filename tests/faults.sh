@@ -137,7 +137,7 @@ INTERRUPTS=1000 plain 2 1
 
 program=almanac input=/dev/null due_status=0 due_line=
 command=(build/almanac year 2 2999 3001)
-build/independent almanac "${command[@]:2}" > "$scratch/right"
+build/independent year "${command[@]:2}" > "$scratch/right"
 WRITE_MOST=1 INTERRUPTS=3 plain 0 1000
 export WRITE_MOST=300
 plain 0 12
@@ -145,7 +145,7 @@ every_fault write "$ENOSPC"
 unset WRITE_MOST
 
 command=(build/almanac year 1 1 200)
-build/independent almanac "${command[@]:2}" > "$scratch/right"
+build/independent year "${command[@]:2}" > "$scratch/right"
 plain 0 2
 every_fault write "$ENOSPC"
 

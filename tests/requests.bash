@@ -1,5 +1,5 @@
-# Sourced after run.bash by tests of the almanac's requests. The test sets `request` to the almanac's word for its
-# request, and `check` to the independent program's. Every function takes the systems, and `same` then the years.
+# Sourced after run.bash by tests of the almanac's requests. The test sets `request` to the word for its request. Every
+# function takes the systems, and `same` then the years.
 
 # A number of so many digits. Linux takes no argument of more than 131071.
 sevens() {
@@ -11,8 +11,8 @@ wrong_systems=(0 3 257 65537 4294967297 18446744073709551617 "$(sevens 131071)")
 
 # The almanac must answer what the independent program answers.
 same() {
-    build/independent "${check:?}" "$@" > "$scratch/expected"
-    run build/almanac "${request:?}" "$@"
+    build/independent "${request:?}" "$@" > "$scratch/expected"
+    run build/almanac "$request" "$@"
     told "$request $*" 0 "$scratch/expected" ''
 }
 

@@ -17,7 +17,7 @@ use std::io::{self, BufWriter, Read, Write};
 use std::process::exit;
 
 const USAGE: &str = "usage:
-  independent almanac SYSTEM FIRST [LAST]
+  independent year SYSTEM YEAR [LAST]
   independent compare FIRST SECOND YEAR [LAST]
   independent lines < records
   independent cuts LONGEST < records
@@ -31,10 +31,10 @@ fn main() {
     let words: Vec<&str> = arguments.iter().map(|a| a.as_str()).collect();
     let mut out = BufWriter::with_capacity(1 << 20, io::stdout().lock());
     let written = match words[..] {
-        ["almanac", system, first] => almanac(system, first, first, &mut out),
-        ["almanac", system, first, last] => almanac(system, first, last, &mut out),
-        ["compare", one, other, first] => compare(one, other, first, first, &mut out),
-        ["compare", one, other, first, last] => compare(one, other, first, last, &mut out),
+        ["year", system, year] => year_pages(system, year, year, &mut out),
+        ["year", system, year, last] => year_pages(system, year, last, &mut out),
+        ["compare", first, second, year] => compare(first, second, year, year, &mut out),
+        ["compare", first, second, year, last] => compare(first, second, year, last, &mut out),
         ["lines"] => lines::lines(&Tables::new(), &records(), &mut out),
         ["cuts", longest] => lines::cuts(&Tables::new(), &records(), word(longest), &mut out),
         ["days", "1"] => streams::days(&Table::new(&GUANTIAN), &mut out),
@@ -63,15 +63,15 @@ fn word(text: &str) -> u64 {
     text.parse().unwrap_or_else(|_| usage())
 }
 
-fn almanac(system: &str, first: &str, last: &str, out: &mut impl Write) -> io::Result<()> {
+fn year_pages(system: &str, year: &str, last: &str, out: &mut impl Write) -> io::Result<()> {
     let (tables, system) = (Tables::new(), number(system));
-    answers(&number(first), &number(last), |year| almanac::page(&tables, &system, year), out)
+    answers(&number(year), &number(last), |year| almanac::page(&tables, &system, year), out)
 }
 
-fn compare(one: &str, other: &str, first: &str, last: &str, out: &mut impl Write) -> io::Result<()> {
-    let (tables, one, other) = (Tables::new(), number(one), number(other));
-    let comparison = |year: &Number| compare::comparison(&tables, &one, &other, year);
-    answers(&number(first), &number(last), comparison, out)
+fn compare(first: &str, second: &str, year: &str, last: &str, out: &mut impl Write) -> io::Result<()> {
+    let (tables, first, second) = (Tables::new(), number(first), number(second));
+    let comparison = |year: &Number| compare::comparison(&tables, &first, &second, year);
+    answers(&number(year), &number(last), comparison, out)
 }
 
 /// All of standard input.

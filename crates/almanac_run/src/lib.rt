@@ -1,4 +1,4 @@
-// The run of the program almanac: `almanac year SYSTEM FIRST [LAST]` and `almanac compare FIRST SECOND YEAR [LAST]`.
+// The run of the program almanac: `almanac year SYSTEM YEAR [LAST]` and `almanac compare FIRST SECOND YEAR [LAST]`.
 ghost use mathlib.Core.Path.{_≡_};
 ghost use Rattle.process.specs.Exit.{misused, AnsweredOrFailed, Ended};
 use arguments::number;
@@ -33,7 +33,7 @@ fn misuse() -> u32
     ensures { λ r. ⌜ r ≡ misused ⌝ }
 {
     exit::misuse(
-        b"usage: almanac year SYSTEM FIRST [LAST] | almanac compare FIRST SECOND YEAR [LAST]\n",
+        b"usage: almanac year SYSTEM YEAR [LAST] | almanac compare FIRST SECOND YEAR [LAST] (see almanac --help)\n",
     )
 }
 
@@ -48,6 +48,7 @@ fn write_years(request: Request, i: usize, last: usize) -> u32
     range::pages(request, first, years)
 }
 
+// Of `count` words on the command line the first is the program's name, and the second what it is asked.
 fn year_pages(count: usize) -> u32
     ensures { λ r. ⌜ Ended r ⌝ }
 {
@@ -84,15 +85,17 @@ fn comparisons(count: usize) -> u32
 fn help() -> u32
     ensures { λ r. ⌜ AnsweredOrFailed r ⌝ }
 {
-    let text = b"almanac year SYSTEM FIRST [LAST]\n\
+    let text = b"almanac year SYSTEM YEAR [LAST]\n\
         almanac compare FIRST SECOND YEAR [LAST]\n\
         almanac --help | --version\n\
         \n\
-        year prints the page of the year FIRST, or of each year from FIRST to LAST, by\n\
-        the calendar with the number SYSTEM: 1 is Guantian, 2 is Jiyuan. A year begins\n\
-        with month 11, late in the common year before it.\n\
+        year prints the page of YEAR, or of each year from YEAR to LAST, by the calendar\n\
+        with the number SYSTEM: 1 is Guantian, 2 is Jiyuan. A year begins with month 11,\n\
+        late in the common year before it.\n\
         compare prints where the months of YEAR, or of each year from YEAR to LAST,\n\
-        differ between the calendars FIRST and SECOND.\n\
+        differ between the calendars with the numbers FIRST and SECOND.\n\
+        In place of a page stands `refused 4` if there is no such calendar, and\n\
+        `refused 5` if the year is outside 1 to 3000.\n\
         The manual page almanac(1) tells the lines and the exit status.\n";
     exit::reply(text, b"almanac: standard output")
 }

@@ -29,7 +29,7 @@ fn next_year(year: u32) -> u32
     if year < u32::MAX { year + 1 } else { year }
 }
 
-// The page of a year, put into a buffer that has room for the longest.
+// What is asked of a year, put into a buffer that has room for the longest page.
 fn page(out: &mut [u8], at: usize, request: Request, year: u32) -> usize
     requires { ⌜ at + 8192 ≤ length (now out) ⌝ }
     ensures { λ r. ⌜ Wrote (now (out .entry)) at (requestedPage request year) (now (out .exit)) r ⌝ }

@@ -1,28 +1,23 @@
 -- Where do the two systems part? Paper 02, Q-1, in the order of its sentences: what a comparison answers is so by the
 -- reckoning, for all systems and years in scope; what is said of refusals, and the last laws, for every input.
-use Prim.Native.Nat.{ℕ, _-_, _≤_, _<_}
+use Prim.Native.Nat.{ℕ, _≤_, _<_}
 use mathlib.Core.Path.{_≡_, sym, subst, ap, _∙_}
-use native.Mathlib.Omega.{arith}
 use lib.IntN.{pos, _-ℤ_}
 use lib.ListN.{length}
 use Rattle.calendar.specs.ExactlyOne.{ExactlyOne}
 use Rattle.calendar.specs.Systems.{constantsOf, yearsElapsed}
 use Rattle.calendar.specs.Year.{Span, monthCount}
-use Rattle.reckoning.specs.declared.data.Year.{Year}
-use Rattle.reckoning.specs.Requests.{yearOf}
 use Rattle.reckoning.specs.Scope.{InScope}
 use Rattle.reckoning.specs.WordedRefusals.{FirstOf}
 use Rattle.comparison.specs.declared.data.Comparison.{Comparison}
 use Rattle.comparison.specs.declared.data.Difference.the-variants.{Days, FirstLacks, SecondLacks}
-use Rattle.comparison.specs.Comparisons.{comparisonRefusal, listing, comparisonOf}
+use Rattle.comparison.specs.Comparisons.{comparisonRefusal, comparisonOf}
 use Rattle.comparison.specs.WhereSystemsDiffer.{MonthAt, NoMonthAt, SystemsDiffer, EachSays, ZerosFrom}
 use Rattle.comparison.specs.WhereSystemsDiffer.{placeIn, differenceIn, ListsAs, comparisonRows}
 use Rattle.comparison.specs.Swapped.{swapped}
-use Rattle.comparison.proofs.Listing.{before, before-most, in-order, stands-within, stands-alone}
 use Rattle.comparison.proofs.MonthsCompared as Months
-use Rattle.comparison.proofs.MonthsCompared.{differ-if-listed, listed-if-differ}
 use Rattle.comparison.proofs.Entries as Entries
-use Rattle.comparison.proofs.Entries.{is-listing, counted, entry-at, case-of-both, case-of-second, case-of-first}
+use Rattle.comparison.proofs.SaysCases as Cases
 use Rattle.comparison.proofs.Refusals as Refused
 use Rattle.comparison.proofs.Itself as Itself
 use Rattle.comparison.proofs.Swapping as Swapping
@@ -39,89 +34,54 @@ module _ (first second year : ℕ) (s : InScope first year) (t : InScope second 
   abbrev v : Comparison
   v = comparisonOf first second year
 
-  abbrev a : Year
-  a = yearOf first year
-
-  abbrev b : Year
-  b = yearOf second year
-
   -- Each place from the first to the thirteenth is listed exactly when the two months differ in number, leap mark or
-  -- head, or when only one system has it,
+  -- head, or when only one system has it: what is listed differs so,
   pub differ-where-listed : (i : ℕ) → i < v .count → SystemsDiffer first second year (placeIn v i)
-  differ-where-listed i h =
-      let e = entry-at first second year s t i h in
-      subst (SystemsDiffer first second year) (sym (e .place-is))
-      (differ-if-listed first second year s t (e .stands .place) (e .stands .listed))
+  differ-where-listed = Entries.differ-where-listed first second year s t
 
-  -- and once,
+  -- and what differs so is listed, just once,
   pub listed-where-differ : (place : ℕ) → SystemsDiffer first second year place → ExactlyOne (ListsAs v place)
-  listed-where-differ place d =
-      let count = counted first second year s t in
-      let to-list = listed-if-differ first second year s t place d in
-      let from = to-list .from-first in
-      let i = before a b (place - 1) in
-      let within = stands-within a b 13 (place - 1) (omega (arith, to-list .to-thirteenth)) (to-list .listed) in
-      let e = entry-at first second year s t i (omega arith) in
-      let here = stands-alone a b (e .stands .place) (place - 1) (e .stands .listed) (to-list .listed) (e .stands .stands) in
-      record {
-        it = i;
-        has = (omega arith, omega (arith, e .place-is));
-        only = λ j p.
-            let f = entry-at first second year s t j (p .0) in
-            let there : f .stands .place ≡ place - 1 = omega (arith, f .place-is, p .1) in
-            sym (f .stands .stands) ∙ ap (before a b) there;
-      }
+  listed-where-differ = Entries.listed-where-differ first second year s t
 
   -- in order,
   pub in-rising-order : (i j : ℕ) → i < j → j < v .count → placeIn v i < placeIn v j
-  in-rising-order i j l h =
-      let e = entry-at first second year s t i (omega arith) in
-      let f = entry-at first second year s t j h in
-      let rises = in-order a b (e .stands .place) (f .stands .place) (omega (arith, e .stands .stands, f .stands .stands)) in
-      omega (arith, e .place-is, f .place-is)
+  in-rising-order = Entries.in-rising-order first second year s t
 
   -- none past the thirteenth.
   pub first-to-thirteenth : (i : ℕ) → i < v .count → (1 ≤ placeIn v i) × (placeIn v i ≤ 13)
-  first-to-thirteenth i h =
-      let e = entry-at first second year s t i h in (omega (arith, e .place-is), omega (arith, e .place-is, e .stands .within))
+  first-to-thirteenth = Entries.first-to-thirteenth first second year s t
 
   pub thirteen-at-most : v .count ≤ 13
-  thirteen-at-most = omega (arith, counted first second year s t, before-most a b 13)
+  thirteen-at-most = Entries.thirteen-at-most first second year s t
 
   -- Where both exist it states the head of the second minus the head of the first, a signed count of days;
   pub both-exist : (i : ℕ) → i < v .count → (m : MonthAt first year (placeIn v i)) → (n : MonthAt second year (placeIn v i))
       → differenceIn v i ≡ Days (pos (n .head) -ℤ pos (m .head))
-  both-exist i h m n =
-      case-of-both first second year s t (placeIn v i) (differenceIn v i) (Entries.each-says first second year i h) m n
+  both-exist i h = Cases.case-of-both first second year s t (placeIn v i) (differenceIn v i) (Entries.each-says first second year i h)
 
   -- where one is missing, it says which.
   pub first-missing : (i : ℕ) → i < v .count → NoMonthAt first year (placeIn v i) → differenceIn v i ≡ FirstLacks
-  first-missing i h none =
-      case-of-second first second year s t (placeIn v i) (differenceIn v i) (Entries.each-says first second year i h) none
+  first-missing i h = Cases.case-first-lacks first second year s t (placeIn v i) (differenceIn v i) (Entries.each-says first second year i h)
 
   pub second-missing : (i : ℕ) → i < v .count → NoMonthAt second year (placeIn v i) → differenceIn v i ≡ SecondLacks
-  second-missing i h none =
-      case-of-first first second year s t (placeIn v i) (differenceIn v i) (Entries.each-says first second year i h) none
+  second-missing i h = Cases.case-second-lacks first second year s t (placeIn v i) (differenceIn v i) (Entries.each-says first second year i h)
 
   -- It carries no refusal, and after what it lists are zeros.
   pub not-refused : v .refusal ≡ 0
-  unfolding listing
-  not-refused = ap (λ w. w .refusal) (is-listing first second year s t)
+  not-refused = Entries.not-refused first second year s t
 
   pub thirteen-entries : length (v .places) ≡ 13
-  thirteen-entries = ap (λ w. length (w .places)) (is-listing first second year s t) ∙ Entries.thirteen-entries a b
+  thirteen-entries = Entries.thirteen-entries first second year s t
 
   pub unused-are-zeros : ZerosFrom v (v .count)
-  unused-are-zeros =
-      subst (λ n. ZerosFrom v n) (sym (counted first second year s t))
-      (subst (λ w. ZerosFrom w (before a b 13)) (sym (is-listing first second year s t)) (Entries.zeros-after a b))
+  unused-are-zeros = Entries.unused-are-zeros first second year s t
 
 -- Whatever is asked, what is said of a place is what its case stands for. So where days are told, the second head is the
 -- first head and those days, as integers.
 pub says-what-it-stands-for : (first second year : ℕ) → EachSays first second year (comparisonOf first second year)
 says-what-it-stands-for = Entries.each-says
 
--- Either system wrong is refused SYSTEM, then the year YEAR;
+-- Either system wrong is refused 4 (SYSTEM), then the year 5 (YEAR), and the answer carries that number;
 pub refusal-is-the-first : (first second year : ℕ)
     → FirstOf (comparisonRows first second year) ((comparisonOf first second year) .refusal)
 refusal-is-the-first first second year =
@@ -142,6 +102,7 @@ itself-lists-nothing system year =
     let blank = Itself.itself-lists-nothing system year in
     (ap (λ v. v .count) blank, subst (λ v. ZerosFrom v 0) (sym blank) (Entries.blank-zeros (comparisonRefusal system system year)))
 
--- Two systems compared the other way round: each sign turns, which lacks a month is exchanged, and nothing else changes.
+-- Two systems compared the other way round: the sign of each difference changes, which of the two lacks a month is
+-- exchanged, and nothing else changes.
 pub the-other-way-round : (first second year : ℕ) → comparisonOf second first year ≡ swapped (comparisonOf first second year)
 the-other-way-round = Swapping.swapped-answer

@@ -1,26 +1,26 @@
 -- What a comparison has at each of its entries.
-use Prim.Native.Nat.{ℕ, _+_, _-_, _<_}
-use mathlib.Core.Path.{_≡_, refl, sym, subst, ap, ap₂, _∙_}
+use Prim.Native.Nat.{ℕ, _+_, _-_, _≤_, _<_}
+use mathlib.Core.Path.{_≡_, sym, subst, ap, _∙_}
 use mathlib.Core.List.{_++_}
 use native.Mathlib.Omega.{arith}
-use lib.IntN.{ℤ, pos, _+ℤ_, _-ℤ_, +ℤ-comm, +ℤ-negℤ-cancel}
+use lib.IntN.{pos}
 use lib.ListN.{length, getD, replicate, length-append, length-replicate, List·getD-append}
 use lib.Seq.{getD-append-add}
 use borrow.Author.Tests.{eq-eqb}
+use Rattle.calendar.specs.ExactlyOne.{ExactlyOne}
 use Rattle.calendar.proofs.Rising.{by-order}
 use Rattle.reckoning.specs.declared.data.Year.{Year}
 use Rattle.reckoning.specs.Requests.{yearOf}
 use Rattle.reckoning.specs.Scope.{InScope}
 use Rattle.reckoning.proofs.FilledLaws.{replicate-reads}
 use Rattle.comparison.specs.declared.data.Comparison.{Comparison}
-use Rattle.comparison.specs.declared.data.Difference.{Difference}
-use Rattle.comparison.specs.declared.data.Difference.the-variants.{Days, FirstLacks, SecondLacks}
+use Rattle.comparison.specs.declared.data.Difference.the-variants.{Days}
 use Rattle.comparison.specs.declared.data.Listed.{Listed}
 use Rattle.comparison.specs.Comparisons.{comparisonRefusal, listedAt, placesUpTo, unused, listing, noComparison}
 use Rattle.comparison.specs.Comparisons.{comparisonOf}
-use Rattle.comparison.specs.WhereSystemsDiffer.{MonthAt, NoMonthAt, Says, placeIn, EachSays, ZerosFrom}
-use Rattle.comparison.proofs.Listing.{before, before-most, StandsAt, stands-at}
-use Rattle.comparison.proofs.MonthsCompared.{one-head, says-how}
+use Rattle.comparison.specs.WhereSystemsDiffer.{SystemsDiffer, Says, placeIn, ListsAs, EachSays, ZerosFrom}
+use Rattle.comparison.proofs.Listing.{before, before-most, in-order, StandsAt, stands-at, stands-within, stands-alone}
+use Rattle.comparison.proofs.MonthsCompared.{differ-if-listed, says-how, listed-if-differ}
 use Rattle.comparison.proofs.Refusals.{compared, blank, first-in-scope, second-in-scope}
 
 -- An unused entry is zeros.
@@ -39,14 +39,14 @@ module _ (a b : Year) where
       let places = placesUpTo a b 13 in
       List·getD-append places (replicate (13 - length places) unused) unused j h ∙ s .is
 
-  pub thirteen-entries : length ((listing a b) .places) ≡ 13
+  thirteen-of-listing : length ((listing a b) .places) ≡ 13
   unfolding listing
-  thirteen-entries =
+  thirteen-of-listing =
       let places = placesUpTo a b 13 in
       length-append places (replicate (13 - length places) unused)
       ∙ omega (arith, length-replicate (13 - length places) unused, before-most a b 13)
 
-  pub zeros-after : ZerosFrom (listing a b) (before a b 13)
+  zeros-after : ZerosFrom (listing a b) (before a b 13)
   unfolding listing
   zeros-after j h =
       let places = placesUpTo a b 13 in
@@ -68,20 +68,20 @@ module _ (first second year : ℕ) (s : InScope first year) (t : InScope second 
   abbrev b : Year
   b = yearOf second year
 
-  pub is-listing : v ≡ listing a b
+  is-listing : v ≡ listing a b
   unfolding comparisonOf
   is-listing = simp (eq-eqb (comparisonRefusal first second year) 0 (compared first second year s t))
 
-  pub counted : v .count ≡ before a b 13
+  counted : v .count ≡ before a b 13
   unfolding listing
   counted = ap (λ w. w .count) is-listing
 
-  pub record Entry (i : ℕ) : Type 0 where
-    pub stands : StandsAt a b 13 i
-    pub is : getD (v .places) i unused ≡ listedAt a b (stands .place)
-    pub place-is : placeIn v i ≡ stands .place + 1
+  record Entry (i : ℕ) : Type 0 where
+    stands : StandsAt a b 13 i
+    is : getD (v .places) i unused ≡ listedAt a b (stands .place)
+    place-is : placeIn v i ≡ stands .place + 1
 
-  pub entry-at : (i : ℕ) → i < v .count → Entry i
+  entry-at : (i : ℕ) → i < v .count → Entry i
   entry-at i h =
       let l : i < before a b 13 = omega (arith, counted) in
       let at = stands-at a b 13 i l in
@@ -94,33 +94,53 @@ module _ (first second year : ℕ) (s : InScope first year) (t : InScope second 
       subst (λ l. Says first second year (l .place) (l .difference)) (sym (e .is))
       (says-how first second year s t (e .stands .place) (e .stands .listed))
 
-  -- The case of a place, by which of the two has a month there.
-  module _ (place : ℕ) where
-    days-alone : (x y : ℕ) (days : ℤ) → pos y ≡ pos x +ℤ days → days ≡ pos y -ℤ pos x
-    days-alone x y days e =
-        sym (+ℤ-negℤ-cancel days (pos x)) ∙ ap (λ z. z -ℤ pos x) (+ℤ-comm days (pos x)) ∙ ap (λ z. z -ℤ pos x) (sym e)
+  pub differ-where-listed : (i : ℕ) → i < v .count → SystemsDiffer first second year (placeIn v i)
+  differ-where-listed i h =
+      let e = entry-at i h in
+      subst (SystemsDiffer first second year) (sym (e .place-is))
+      (differ-if-listed first second year s t (e .stands .place) (e .stands .listed))
 
-    pub case-of-both : (d : Difference) → Says first second year place d
-        → (m : MonthAt first year place) → (n : MonthAt second year place)
-        → d ≡ Days (pos (n .head) -ℤ pos (m .head))
-    case-of-both (Days days) says m n =
-        ap Days
-        (days-alone (says .of-first .head) (says .of-second .head) days (says .apart)
-        ∙ ap₂ (λ y x. pos y -ℤ pos x)
-        (one-head second year t place (says .of-second) n)
-        (one-head first year s place (says .of-first) m))
-    case-of-both FirstLacks says m n = absurd (says .0 m)
-    case-of-both SecondLacks says m n = absurd (says .1 n)
+  pub listed-where-differ : (place : ℕ) → SystemsDiffer first second year place → ExactlyOne (ListsAs v place)
+  listed-where-differ place d =
+      let count = counted in
+      let to-list = listed-if-differ first second year s t place d in
+      let from = to-list .from-first in
+      let i = before a b (place - 1) in
+      let within = stands-within a b 13 (place - 1) (omega (arith, to-list .to-thirteenth)) (to-list .listed) in
+      let e = entry-at i (omega arith) in
+      let here = stands-alone a b (e .stands .place) (place - 1) (e .stands .listed) (to-list .listed) (e .stands .stands) in
+      record {
+        it = i;
+        has = (omega arith, omega (arith, e .place-is));
+        only = λ j p.
+            let f = entry-at j (p .0) in
+            let there : f .stands .place ≡ place - 1 = omega (arith, f .place-is, p .1) in
+            sym (f .stands .stands) ∙ ap (before a b) there;
+      }
 
-    pub case-of-second : (d : Difference) → Says first second year place d → NoMonthAt first year place → d ≡ FirstLacks
-    case-of-second (Days days) says none = absurd (none (says .of-first))
-    case-of-second FirstLacks says none = refl
-    case-of-second SecondLacks says none = absurd (none (says .0))
+  pub in-rising-order : (i j : ℕ) → i < j → j < v .count → placeIn v i < placeIn v j
+  in-rising-order i j l h =
+      let e = entry-at i (omega arith) in
+      let f = entry-at j h in
+      let rises = in-order a b (e .stands .place) (f .stands .place) (omega (arith, e .stands .stands, f .stands .stands)) in
+      omega (arith, e .place-is, f .place-is)
 
-    pub case-of-first : (d : Difference) → Says first second year place d → NoMonthAt second year place → d ≡ SecondLacks
-    case-of-first (Days days) says none = absurd (none (says .of-second))
-    case-of-first FirstLacks says none = absurd (none (says .1))
-    case-of-first SecondLacks says none = refl
+  pub first-to-thirteenth : (i : ℕ) → i < v .count → (1 ≤ placeIn v i) × (placeIn v i ≤ 13)
+  first-to-thirteenth i h = let e = entry-at i h in (omega (arith, e .place-is), omega (arith, e .place-is, e .stands .within))
+
+  pub thirteen-at-most : v .count ≤ 13
+  thirteen-at-most = omega (arith, counted, before-most a b 13)
+
+  pub not-refused : v .refusal ≡ 0
+  unfolding listing
+  not-refused = ap (λ w. w .refusal) is-listing
+
+  pub thirteen-entries : length (v .places) ≡ 13
+  thirteen-entries = ap (λ w. length (w .places)) is-listing ∙ thirteen-of-listing a b
+
+  pub unused-are-zeros : ZerosFrom v (v .count)
+  unused-are-zeros =
+      subst (λ n. ZerosFrom v n) (sym counted) (subst (λ w. ZerosFrom w (before a b 13)) (sym is-listing) (zeros-after a b))
 
 -- Whatever is asked: a refused comparison lists nothing of which it could say anything.
 module _ (first second year : ℕ) where

@@ -9,8 +9,10 @@ pub mod PlaceCases
 pub mod MonthsCompared
 -- What is refused, and that what is not is in scope.
 pub mod Refusals
--- What an answer has at each of its places.
+-- What an answer has at each of its entries.
 pub mod Entries
+-- The case of a place, by which of the two has a month there.
+pub mod SaysCases
 -- A system compared with itself.
 pub mod Itself
 -- Two systems the other way round.

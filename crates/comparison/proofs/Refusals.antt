@@ -24,14 +24,14 @@ abbrev pub applies : Rule → Bool
 applies (number if b) = b
 
 -- The first system is judged first, and then the second by itself.
-by-first-system : (wrong late : Bool) (rest : ℕ) → cond wrong SYSTEM (cond late YEAR 0) ≡ SYSTEM → cond wrong SYSTEM rest ≡ SYSTEM
-by-first-system true late rest e = refl
+by-first-system : (wrong wrong-year : Bool) (rest : ℕ) → cond wrong SYSTEM (cond wrong-year YEAR 0) ≡ SYSTEM → cond wrong SYSTEM rest ≡ SYSTEM
+by-first-system true wrong-year rest e = refl
 by-first-system false true rest e = absurd (omega arith)
 by-first-system false false rest e = absurd (omega arith)
 
-past-first-system : (wrong late : Bool) (rest : ℕ) → (cond wrong SYSTEM (cond late YEAR 0) ≡ SYSTEM → ⊥) → cond wrong SYSTEM rest ≡ rest
-past-first-system true late rest h = absurd (h refl)
-past-first-system false late rest h = refl
+past-first-system : (wrong wrong-year : Bool) (rest : ℕ) → (cond wrong SYSTEM (cond wrong-year YEAR 0) ≡ SYSTEM → ⊥) → cond wrong SYSTEM rest ≡ rest
+past-first-system true wrong-year rest h = absurd (h refl)
+past-first-system false wrong-year rest h = refl
 
 module _ (first second year : ℕ) where
   pub first-wrong : yearRefusal first year ≡ SYSTEM → comparisonRefusal first second year ≡ SYSTEM
@@ -71,7 +71,7 @@ module _ (first second year : ℕ) where
   pub compared : InScope first year → InScope second year → comparisonRefusal first second year ≡ 0
   compared s t = both-in-scope s ∙ in-scope second year t
 
-  -- A comparison that carries no refusal is of two systems and a year in scope.
+  -- The answer carries the refusal of its request.
   pub carries : (comparisonOf first second year) .refusal ≡ comparisonRefusal first second year
   unfolding comparisonOf listing
   carries =
@@ -84,6 +84,7 @@ module _ (first second year : ℕ) where
   unfolding comparisonOf
   blank some = simp (ne-eqb (comparisonRefusal first second year) 0 some)
 
+  -- What is not refused is of two systems and a year in scope.
   pub first-in-scope : comparisonRefusal first second year ≡ 0 → InScope first year
   first-in-scope none =
       by-scope first year

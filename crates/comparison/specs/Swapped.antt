@@ -6,7 +6,7 @@ use Rattle.comparison.specs.declared.data.Difference.{Difference}
 use Rattle.comparison.specs.declared.data.Difference.the-variants.{Days, FirstLacks, SecondLacks}
 use Rattle.comparison.specs.declared.data.Listed.{Listed}
 
--- The sign of a difference turns, and which system lacks a month is exchanged.
+-- The sign of a difference changes, and which system lacks a month is exchanged.
 abbrev pub otherWay : Difference → Difference
 otherWay (Days days) = Days (negℤ days)
 otherWay FirstLacks = SecondLacks

@@ -17,7 +17,7 @@ pub fn compare(first: u32, second: u32, year: u32) -> Comparison
     if refusal == SYSTEM {
         return places::none(refusal);
     }
-    // A wrong second system comes before a wrong year, which is wrong for the second too.
+    // The second year's refusal tells the rest: a wrong second system, or a year that is wrong for both.
     let of_second = reckoning::year(second, year);
     let refusal = of_second.refusal;
     if refusal != 0 {

@@ -9,7 +9,7 @@ use crate::data::Listed;
 use calendar::data::RegisterDay;
 use reckoning::data::Year;
 
-// The months at place i, from 0, are one in number, leap mark and head.
+// Two months are the same in number, leap mark and head. Here i is an index, from 0: that of place i + 1.
 fn same_month(first: Year, second: Year, i: usize) -> bool
     requires { ⌜ i < 13 ⌝ }
     ensures { λ r. ⌜ r ≡ sameMonth first second i ⌝ }
@@ -27,7 +27,7 @@ fn same_month(first: Year, second: Year, i: usize) -> bool
     head.0 == other.0
 }
 
-// Place i is listed.
+// Place i + 1 is listed.
 fn is_listed(first: Year, second: Year, i: usize) -> bool
     requires { ⌜ i < 13 ⌝ }
     ensures { λ r. ⌜ r ≡ isListed first second i ⌝ }
@@ -49,7 +49,7 @@ fn days_between(first: RegisterDay, second: RegisterDay) -> Difference
     Difference::Days(days)
 }
 
-// How the two differ at place i.
+// How the two differ there.
 fn difference_at(first: Year, second: Year, i: usize) -> Difference
     requires { ⌜ i < 13 ⌝ }
     ensures { λ r. ⌜ r ≡ differenceAt first second i ⌝ }
@@ -65,6 +65,7 @@ fn difference_at(first: Year, second: Year, i: usize) -> Difference
     days_between(head, other)
 }
 
+// The entry of a place that is listed.
 fn listed_at(first: Year, second: Year, i: usize) -> Listed
     requires { ⌜ i < 13 ⌝ }
     ensures { λ r. ⌜ r ≡ listedAt first second i ⌝ }
@@ -75,6 +76,7 @@ fn listed_at(first: Year, second: Year, i: usize) -> Listed
     }
 }
 
+// An entry that is not used.
 fn unused() -> Listed
     ensures { λ r. ⌜ r ≡ unused ⌝ }
 {
@@ -106,6 +108,7 @@ pub(crate) fn list(first: Year, second: Year) -> Comparison
     }
 }
 
+// Nothing listed, with a refusal's number.
 pub(crate) fn none(refusal: u8) -> Comparison
     ensures { λ r. ⌜ r ≡ noComparison refusal ⌝ }
 {

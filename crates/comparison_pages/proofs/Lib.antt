@@ -1,6 +1,6 @@
 -- Laws that serve several functions.
--- A signed number of days by its sign and its size.
-pub mod SignedDays
+-- The text of a signed number of days, by its sign and its size.
+pub mod DaysText
 -- The line of a place from its pieces.
 pub mod PlaceText
 -- The page from its lines.

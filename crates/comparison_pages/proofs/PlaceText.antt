@@ -20,7 +20,7 @@ use Rattle.text.proofs.Writing.{wrote-as, wrote-then}
 use Rattle.text.proofs.Putting.{Puts, put-wrote}
 use Rattle.comparison_pages.specs.Printable.{SmallDays}
 use Rattle.comparison_pages.specs.ComparisonPage.{monthText, monthTexts, daysText, differenceText, lineEnd, placeLine}
-use Rattle.comparison_pages.proofs.SignedDays.{is-stored}
+use Rattle.comparison_pages.proofs.DaysText.{is-stored}
 
 -- A month, or none.
 module _ {b a : List ℕ} {at e rooms : ℕ} (months : Year) (i : ℕ) where

@@ -24,7 +24,7 @@ lineStart first = word (99 ∷ 111 ∷ 109 ∷ 112 ∷ 97 ∷ 114 ∷ 101 ∷ 32
 unfoldable pub compareLine : ℕ → ℕ → ℕ → ℕ → List ℕ
 compareLine first second n places = lineStart first ++ (year second n ++ line [] (places ∷ []))
 
--- The month at place i, from 0: its number, '*' directly after it if leap, and its head; " - -" where there is none.
+-- The month at index i, from 0: its number, '*' directly after it if leap, and its head; " - -" where there is none.
 unfoldable pub monthText : Year → ℕ → List ℕ
 monthText months i =
     cond (hasMonth months i)

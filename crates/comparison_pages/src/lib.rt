@@ -5,8 +5,8 @@ ghost use Rattle.comparison_pages.specs.ComparisonPage.{comparisonPage};
 mod place;
 mod whole;
 
-// The page of a comparison, or the line of its refusal, put into an output at a place that has 1024 bytes after it;
-// where it has fewer, the output and the place stay as they are.
+// The page of a comparison, or the line of its refusal, put into an output where 1024 bytes follow; where fewer do, the
+// output and the position stay as they are.
 pub fn page(out: &mut [u8], at: usize, first: u32, second: u32, year: u32) -> usize
     ensures { λ r. ⌜ Put (now (out .entry)) at 1024 (comparisonPage first second year) (now (out .exit)) r ⌝ }
 {

@@ -10,7 +10,7 @@ use comparison::data::Difference;
 use comparison::data::Listed;
 use reckoning::data::Year;
 
-// The month at place i, from 0.
+// The month at index i, from 0.
 fn month(out: &mut [u8], at: usize, months: Year, i: usize) -> usize
     requires { ⌜ (at + 23 ≤ length (now out)) × (i < 13) ⌝ }
     ensures { λ r. ⌜ Wrote (now (out .entry)) at (monthText months i) (now (out .exit)) r × (r ≤ at + 23) ⌝ }
@@ -33,8 +33,8 @@ fn both_months(out: &mut [u8], at: usize, first: Year, second: Year, i: usize) -
     month(out, at, second, i)
 }
 
-// How many days, whatever the sign.
-fn size_of(days: i64) -> u32
+// How many days, without the sign.
+fn days_unsigned(days: i64) -> u32
     requires { ⌜ natAbs days < 2 ^ 32 ⌝ }
     ensures { λ r. ⌜ r ≡ natAbs days ⌝ }
 {
@@ -49,7 +49,7 @@ fn days(out: &mut [u8], at: usize, days: i64) -> usize
     requires { ⌜ (at + 12 ≤ length (now out)) × (natAbs days < 2 ^ 32) ⌝ }
     ensures { λ r. ⌜ Wrote (now (out .entry)) at (daysText days) (now (out .exit)) r × (r ≤ at + 12) ⌝ }
 {
-    let size = size_of(days);
+    let size = days_unsigned(days);
     if days < 0 {
         let at = text::word(out, at, b" -");
         return text::number(out, at, size);

@@ -1,4 +1,5 @@
-// The page of a comparison: what is compared, and the places.
+// The page of a comparison: what is compared, and the places. It takes 34 bytes for the first line and 75 for each of
+// thirteen places, at most.
 ghost use Prim.Native.Nat.{_+_, _≤_};
 ghost use lib.ListN.{length};
 ghost use Rattle.text.specs.Wrote.{Wrote};
@@ -9,6 +10,7 @@ use comparison::compare;
 use comparison::data::Comparison;
 use reckoning::data::Year;
 
+// Up to the first system's letter; `text::year` writes the second's.
 fn line_start(out: &mut [u8], at: usize, first: u32) -> usize
     requires { ⌜ at + 10 ≤ length (now out) ⌝ }
     ensures { λ r. ⌜ Wrote (now (out .entry)) at (lineStart first) (now (out .exit)) r × (r ≤ at + 10) ⌝ }

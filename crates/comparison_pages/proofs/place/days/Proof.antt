@@ -1,13 +1,13 @@
 use mathlib.Core.Path.{refl}
 use native.Mathlib.Omega.{arith}
 use Rattle.text.proofs.Putting.{all-put, put-then, put-last}
-use Rattle.comparison_pages.proofs.SignedDays.{put-negative, put-other}
+use Rattle.comparison_pages.proofs.DaysText.{put-negative, put-other}
 use borrow.Author.Needs.{needs}
 use Rattle.comparison_pages.proofs.place.days.Statement.{statement}
 use Rattle.comparison_pages.proofs.place.days.Tie as tie
 
-size-of-requires : tie.Need-size-of-requires
-size-of-requires c κs = search needs
+days-unsigned-requires : tie.Need-days-unsigned-requires
+days-unsigned-requires c κs = search needs
 
 slice-aggregate-word : tie.Need-slice-aggregate-word
 slice-aggregate-word c = search needs
@@ -27,7 +27,7 @@ returns c =
     let minus = digits .before .before .before .before in
     let test = minus .before .before .before in
     let told = put-then (minus .word .ensures) refl (put-last (digits .number .ensures) refl) in
-    all-put (put-negative _ (test .before .before .before .pre .1) (test .before .size-of .ensures) (test .if1 .taken) told) (omega arith)
+    all-put (put-negative _ (test .before .before .before .pre .1) (test .before .days-unsigned .ensures) (test .if1 .taken) told) (omega arith)
 
 field-requires : tie.Need-field-requires
 field-requires c κs = search needs
@@ -42,7 +42,7 @@ pub days-spec : {M : Type 1} → statement M
 days-spec =
     tie.close
     (tie.spec
-    size-of-requires
+    days-unsigned-requires
     slice-aggregate-word
     word-requires
     number-requires

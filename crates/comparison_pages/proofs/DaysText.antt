@@ -1,4 +1,4 @@
--- A signed number of days by its sign and its size.
+-- The text of a signed number of days, by its sign and its size.
 use Prim.Native.Nat.{ℕ, zero, suc, _^_, _≤_, _<_}
 use mathlib.Core.Path.{_≡_, refl, subst, sym, ap, _∙_}
 use mathlib.Core.Bool.{true, false, true≢false}

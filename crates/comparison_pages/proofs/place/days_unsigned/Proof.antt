@@ -1,9 +1,9 @@
 use mathlib.Core.Path.{ap}
 use lib.IntN.{natAbs}
-use Rattle.comparison_pages.proofs.SignedDays.{cast-fits, negated-fits, negated, not-negated}
+use Rattle.comparison_pages.proofs.DaysText.{cast-fits, negated-fits, negated, not-negated}
 use borrow.Author.Needs.{needs}
-use Rattle.comparison_pages.proofs.place.size_of.Statement.{statement}
-use Rattle.comparison_pages.proofs.place.size_of.Tie as tie
+use Rattle.comparison_pages.proofs.place.days_unsigned.Statement.{statement}
+use Rattle.comparison_pages.proofs.place.days_unsigned.Tie as tie
 
 sub-less : tie.Need-sub-less
 sub-less c = negated-fits (c .before .args .days) (c .before .pre)
@@ -20,5 +20,5 @@ cast-result-2 c = cast-fits (not-negated (c .before .args .days) (c .before .pre
 returns-2 : tie.Need-returns-2
 returns-2 c = search needs
 
-pub size-of-spec : {M : Type 1} → statement M
-size-of-spec = tie.close (tie.spec sub-less cast-result returns cast-result-2 returns-2)
+pub days-unsigned-spec : {M : Type 1} → statement M
+days-unsigned-spec = tie.close (tie.spec sub-less cast-result returns cast-result-2 returns-2)
