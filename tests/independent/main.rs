@@ -1,4 +1,4 @@
-//! The independent check of the two day reckonings of paper 01: the same
+//! The independent check of the day reckonings of papers 01 and 02: the same
 //! rules, found by plain searching, to be compared with the library.
 
 mod almanac;
