@@ -34,9 +34,9 @@ MAKEFLAGS += --no-print-directory
 
 .PHONY: all test-tools test bench sky run install clean
 
-# The programs, the library as an archive and shared, and the example host. The programs come first: what they stand on
-# is proved on all cores.
-all: $(programs) $(library) $(shared) build/store
+# The programs, the library as an archive and shared, and the example host. What they stand on comes first: it is proved
+# on all cores at once, and an archive's own crate by itself.
+all: build/proved $(programs) $(library) $(shared) build/store
 
 # What only the tests need.
 test-tools: $(test_tools)
@@ -87,6 +87,13 @@ clean:
 
 build:
 	mkdir -p build
+
+# What the runs of both programs stand on.
+build/proved: $(crates) | build
+	@echo "proving the libraries (what the prover says: build/proved.log)"
+	@rt check lines pages comparison_pages arguments process < /dev/null > build/proved.log 2>&1 || \
+	    { cat build/proved.log >&2; exit 1; }
+	@touch $@
 
 # A crate proved with all that it stands on, and archived for C. What the prover says is kept, and shown if it refuses.
 build/lib%.a: $(crates) | build
