@@ -1,8 +1,8 @@
 -- The page of a comparison from its lines.
 use Prim.Native.Nat.{ℕ, _+_, _≤_}
-use mathlib.Core.Path.{_≡_, refl, subst, ap, ap₂}
+use mathlib.Core.Path.{_≡_, refl, subst, sym, ap, ap₂, _∙_}
 use mathlib.Core.Bool.{cond}
-use mathlib.Core.List.{List, [], _∷_, _++_}
+use mathlib.Core.List.{List, [], _∷_, _++_, append-nil}
 use native.Mathlib.Omega.{arith}
 use lib.Dec.{eqb}
 use lib.ListN.{length, getD}
@@ -73,3 +73,14 @@ module _ {b a : List ℕ} {at e : ℕ} {compared : Comparison} (first second n :
   wrote-page h first-is second-is w v =
       let places = wrote-as (ap₂ (λ f s. placeLines f s compared) first-is second-is) v in
       subst (λ x. Wrote b at (page-by first second n x) a e) is (simp (eq-eqb (compared .refusal) 0 h) (wrote-then w places))
+
+  pub wrote-page-alone : compared .refusal ≡ 0 → compared .count ≡ 0
+      → Wrote b at (compareLine first second n (compared .count)) a e
+      → Wrote b at (comparisonPage first second n) a e
+  unfolding comparisonPage placeLines textsUpTo
+  wrote-page-alone h none w =
+      let places = placeAt (yearOf first n) (yearOf second n) compared in
+      let nothing : textsUpTo places (compared .count) ≡ [] = ap (textsUpTo places) none in
+      let line = compareLine first second n (compared .count) in
+      let whole : line ≡ line ++ textsUpTo places (compared .count) = sym (append-nil line) ∙ ap (λ t. line ++ t) (sym nothing) in
+      subst (λ x. Wrote b at (page-by first second n x) a e) is (simp (eq-eqb (compared .refusal) 0 h) (wrote-as whole w))

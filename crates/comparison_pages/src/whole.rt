@@ -67,8 +67,13 @@ pub(crate) fn put(out: &mut [u8], at: usize, first: u32, second: u32, year: u32)
     if refusal != 0 {
         return text::refused(out, at, refusal);
     }
+    let count = compared.count;
+    let at = compare_line(out, at, first, second, year, count);
+    // Most years list nothing, and then no month is asked for again.
+    if count == 0 {
+        return at;
+    }
     let of_first = reckoning::year(first, year);
     let of_second = reckoning::year(second, year);
-    let at = compare_line(out, at, first, second, year, compared.count);
     place_lines(out, at, of_first, of_second, compared)
 }
