@@ -1,7 +1,8 @@
 #!/usr/bin/env bash
-# Runs both measurements on what make has built: nanoseconds a record for the
-# storing step, records a second for the program, and at the end the ratios of
-# their times to those of C by themselves.
+# Runs all measurements on what make has built: nanoseconds a record for the
+# storing step, records a second for the program, nanoseconds a year for
+# comparisons, and at the end the ratios of their times to those of C by
+# themselves.
 
 set -euo pipefail
 cd "$(dirname "$0")/.."
@@ -9,6 +10,7 @@ cd "$(dirname "$0")/.."
 {
     build/bench
     bench/bench_program.sh build/chiselbrow build/c_program
+    bench/bench_compare.sh build/almanac build/c_compare
 } | awk '
     { print; fflush() }
     / ratio / {
