@@ -135,8 +135,8 @@ build/faults.so: tests/faults.c | build
 build/bench: bench/bench.c bench/records.c bench/c_store.c $(wildcard bench/*.h) include/chiselbrow.h $(library)
 	$(CC) $(CFLAGS) -Iinclude -o $@ $(filter %.c,$^) $(library)
 
-build/c_program: bench/c_program.c bench/c_store.c bench/c_store.h | build
+build/c_program: bench/c_program.c bench/c_store.c $(wildcard bench/*.h) | build
 	$(CC) $(CFLAGS) -o $@ $(filter %.c,$^)
 
-build/c_compare: bench/c_compare.c | build
+build/c_compare: bench/c_compare.c $(wildcard bench/*.h) | build
 	$(CC) $(CFLAGS) -o $@ $<

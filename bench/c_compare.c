@@ -7,41 +7,16 @@
 
 #define _POSIX_C_SOURCE 200809L
 
-#include <errno.h>
 #include <stdint.h>
 #include <stdlib.h>
 #include <string.h>
-#include <unistd.h>
 
-/* Put into each of its callers, so that a calendar's constants are literals
- * there and no division is left to the machine. */
-#if defined(__GNUC__)
-#define INLINE static inline __attribute__((always_inline))
-#else
-#define INLINE static inline
-#endif
+#include "c_calendar.h"
+#include "c_output.h"
 
 enum {
-    LAST_YEAR = 3000,
     PLACES = 13,
-    OUTPUT_ROOM = 128 * 1024,
     LONGEST_PAGE = 1024
-};
-
-struct calendar {
-    uint64_t day;       /* parts in a day */
-    uint64_t year;      /* parts in a year */
-    uint64_t month;     /* parts in a mean month */
-    uint64_t elapsed;   /* years elapsed at common year 0 */
-    uint64_t anchor;    /* count day less register day */
-};
-
-static const struct calendar guantian = {
-    12030, 4393880, 355253, 5944808 - 1092, 2169182929
-};
-
-static const struct calendar jiyuan = {
-    7290, 2662626, 215278, 28613460 - 1100, 10448760934
 };
 
 /* The months of a year. */
@@ -55,8 +30,8 @@ struct months {
 INLINE void reckon(const struct calendar *c, uint32_t year, struct months *m)
 {
     uint64_t qi = 12 * (c->elapsed + year);
-    uint64_t first = qi * c->year / (12 * c->month);
-    uint64_t next = (qi + 12) * c->year / (12 * c->month);
+    uint64_t first = month_of_qi(c, qi);
+    uint64_t next = month_of_qi(c, qi + 12);
 
     m->count = (uint32_t)(next - first);
     for (uint32_t i = 0; i < m->count; i++) {
@@ -64,8 +39,8 @@ INLINE void reckon(const struct calendar *c, uint32_t year, struct months *m)
         uint64_t end = 12 * (month + 1) * c->month - 1;
         uint32_t qi_of_year = (uint32_t)(end / c->year - qi);
 
-        m->head[i] = (uint32_t)(month * c->month / c->day - c->anchor);
-        m->number[i] = qi_of_year < 2 ? qi_of_year + 11 : qi_of_year - 1;
+        m->head[i] = (uint32_t)(head_of_month(c, month) - c->anchor);
+        m->number[i] = number_of_qi(qi_of_year);
         m->leap[i] = end % c->year >= 12 * c->month;
     }
 }
@@ -88,23 +63,6 @@ static int is_listed(const struct months *a, const struct months *b,
 }
 
 /* Output. */
-
-static char output[OUTPUT_ROOM];
-static size_t output_len;
-
-static void flush_output(void)
-{
-    size_t done = 0;
-
-    while (done < output_len) {
-        ssize_t written = write(1, output + done, output_len - done);
-        if (written >= 0)
-            done += (size_t)written;
-        else if (errno != EINTR)
-            _exit(1);
-    }
-    output_len = 0;
-}
 
 static void put(const char *word, size_t length)
 {

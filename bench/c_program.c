@@ -8,37 +8,18 @@
 #include <string.h>
 #include <unistd.h>
 
+#include "c_output.h"
 #include "c_store.h"
 
 enum {
     INPUT_ROOM = 64 * 1024,
-    OUTPUT_ROOM = 128 * 1024,
     SHORTEST_RECORD = 4,
     LONGEST_RECORD = 64,
     LONGEST_LINE = 32,  /* "G 3000 10* 30 2817999 59\n" has 25 bytes */
     STORED_LEN = 10
 };
 
-/* Output. Nothing more can be told once writing or reading fails. */
-
-static char output[OUTPUT_ROOM];
-static size_t output_len;
-
-static void flush_output(void)
-{
-    size_t done = 0;
-
-    while (done < output_len) {
-        ssize_t written = write(1, output + done, output_len - done);
-        if (written >= 0)
-            done += (size_t)written;
-        else if (errno != EINTR)
-            _exit(1);
-    }
-    output_len = 0;
-}
-
-/* Room for one more line. */
+/* Output: room for one more line. */
 static char *line_start(void)
 {
     if (OUTPUT_ROOM - output_len < LONGEST_LINE)

@@ -8,33 +8,10 @@
 
 #include <string.h>
 
-/* Everything that takes a calendar is put into each of its callers, so that
- * its constants are literals there and no division is left to the machine. */
-#if defined(__GNUC__)
-#define INLINE static inline __attribute__((always_inline))
-#else
-#define INLINE static inline
-#endif
+#include "c_calendar.h"
 
 enum {
-    LAST_YEAR = 3000,
     STORED_LEN = 10
-};
-
-struct calendar {
-    uint64_t day;       /* parts in a day */
-    uint64_t year;      /* parts in a year */
-    uint64_t month;     /* parts in a mean month */
-    uint64_t elapsed;   /* years elapsed at common year 0 */
-    uint64_t anchor;    /* count day less register day */
-};
-
-static const struct calendar guantian = {
-    12030, 4393880, 355253, 5944808 - 1092, 2169182929
-};
-
-static const struct calendar jiyuan = {
-    7290, 2662626, 215278, 28613460 - 1100, 10448760934
 };
 
 /* Bytes. The shifts become single loads and stores. */
@@ -70,16 +47,6 @@ INLINE uint64_t refuse(uint64_t number)
 }
 
 /* The reckoning. */
-
-INLINE uint64_t month_of_qi(const struct calendar *c, uint64_t qi)
-{
-    return qi * c->year / (12 * c->month);
-}
-
-INLINE uint64_t head_of_month(const struct calendar *c, uint64_t month)
-{
-    return month * c->month / c->day;
-}
 
 INLINE uint64_t head_of_year(const struct calendar *c, uint32_t year)
 {
@@ -155,11 +122,6 @@ INLINE struct date date_of_day(const struct calendar *c, uint64_t day)
     found.qi = month_end / c->year;
     found.leap = month_end % c->year >= 12 * c->month;
     return found;
-}
-
-INLINE uint32_t number_of_qi(uint32_t qi_of_year)
-{
-    return qi_of_year < 2 ? qi_of_year + 11 : qi_of_year - 1;
 }
 
 /* The four kinds. The record's own shape and system are settled before. */

@@ -1,10 +1,11 @@
 -- Place by place, the values of two years say of their months what the reckoning says.
 use Prim.Native.Nat.{ℕ, _+_, _-_, _^_, _≤_, _<_}
-use mathlib.Core.Path.{_≡_, refl, sym, subst, ap, _∙_}
+use mathlib.Core.Path.{_≡_, sym, subst, ap, _∙_}
 use mathlib.Core.Logic.{_⊎_, ⊎-elim}
-use mathlib.Core.Bool.{Bool, true, false, true≢false, not}
+use mathlib.Core.Bool.{true, false, true≢false, not}
 use native.Mathlib.Omega.{arith}
 use lib.IntN.{pos, _+ℤ_, _-ℤ_, +ℤ-comm, -ℤ-+ℤ-cancel}
+use borrow.Author.Tests.{not-true}
 use Rattle.calendar.specs.declared.data.Constants.{Constants}
 use Rattle.calendar.specs.Systems.{constantsOf, yearsElapsed}
 use Rattle.calendar.specs.ClosedForms.{monthNumber, leapMark}
@@ -121,10 +122,6 @@ module _ (system year : ℕ) (s : InScope system year) where
     pub has-no-other : (place : ℕ) → monthCount y < place → NoMonthAt system year place
     has-no-other place past m = omega (arith, counted, (agrees place m) .within, m .from-first)
 
-not-is-true : (b : Bool) → not b ≡ true → b ≡ false
-not-is-true true e = absurd (true≢false (sym e))
-not-is-true false e = refl
-
 -- The two systems.
 module _ (first second year : ℕ) (s : InScope first year) (t : InScope second year) where
   abbrev a : Year
@@ -139,7 +136,7 @@ module _ (first second year : ℕ) (s : InScope first year) (t : InScope second 
       by-months a b i
       (λ p q.
       SystemsDiffer.months-unlike (month-at first year s i p) (month-at second year t i q)
-      (some-differs a b i (not-is-true (sameMonth a b i) (sym (listed-both a b i p q) ∙ e))))
+      (some-differs a b i (not-true (sameMonth a b i) (sym (listed-both a b i p q) ∙ e))))
       (λ p q. SystemsDiffer.first-alone (month-at first year s i p) (no-month-at second year t i q))
       (λ p q. SystemsDiffer.second-alone (no-month-at first year s i p) (month-at second year t i q))
       (λ p q. absurd (true≢false (sym e ∙ listed-none a b i p q)))

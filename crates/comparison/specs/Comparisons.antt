@@ -19,7 +19,7 @@ use Rattle.comparison.specs.declared.data.Listed.{Listed}
 unfoldable pub comparisonRefusal : ℕ → ℕ → ℕ → ℕ
 comparisonRefusal first second year = Rules.first (wrongSystem first ∷ wrongSystem second ∷ wrongYear year ∷ [])
 
--- A year has a month at place i. Here a place is counted from 0, as in the value of a year.
+-- A year has a month at index i, from 0 as in the value of a year: at place i + 1.
 abbrev pub hasMonth : Year → ℕ → Bool
 hasMonth months i = ltb i (months .count)
 
@@ -42,7 +42,7 @@ differenceAt first second i =
     (cond (hasMonth second i) (Days (pos (headIn second i) -ℤ pos (headIn first i))) SecondLacks)
     FirstLacks
 
--- A place is told from 1.
+-- The entry of a place, which is told from 1.
 abbrev pub listedAt : Year → Year → ℕ → Listed
 listedAt first second i = record { place = i + 1; difference = differenceAt first second i }
 

@@ -1,0 +1,51 @@
+/* The two calendars, for the C that the library's speed is held against. */
+
+#ifndef C_CALENDAR_H
+#define C_CALENDAR_H
+
+#include <stdint.h>
+
+/* Everything that takes a calendar is put into each of its callers, so that
+ * its constants are literals there and no division is left to the machine. */
+#if defined(__GNUC__)
+#define INLINE static inline __attribute__((always_inline))
+#else
+#define INLINE static inline
+#endif
+
+enum {
+    LAST_YEAR = 3000
+};
+
+struct calendar {
+    uint64_t day;       /* parts in a day */
+    uint64_t year;      /* parts in a year */
+    uint64_t month;     /* parts in a mean month */
+    uint64_t elapsed;   /* years elapsed at common year 0 */
+    uint64_t anchor;    /* count day less register day */
+};
+
+static const struct calendar guantian = {
+    12030, 4393880, 355253, 5944808 - 1092, 2169182929
+};
+
+static const struct calendar jiyuan = {
+    7290, 2662626, 215278, 28613460 - 1100, 10448760934
+};
+
+INLINE uint64_t month_of_qi(const struct calendar *c, uint64_t qi)
+{
+    return qi * c->year / (12 * c->month);
+}
+
+INLINE uint64_t head_of_month(const struct calendar *c, uint64_t month)
+{
+    return month * c->month / c->day;
+}
+
+INLINE uint32_t number_of_qi(uint32_t qi_of_year)
+{
+    return qi_of_year < 2 ? qi_of_year + 11 : qi_of_year - 1;
+}
+
+#endif
