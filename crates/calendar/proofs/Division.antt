@@ -1,7 +1,12 @@
 -- Whole division: what a step of the dividend does to the quotient, and how a scaling is inverted.
 use Prim.Native.Nat.{ℕ, _+_, _*_, _-_, _/_, _≤_, _<_}
-use native.Mathlib.Nat.{le-div-iff-mul-le, div-lt-iff-lt-mul, div-mul-le-self, lt-div-mul-add}
+use mathlib.Core.Path.{_≡_, ap₂, _∙_}
+use native.Mathlib.Nat.{le-div-iff-mul-le, div-lt-iff-lt-mul, div-mul-le-self, lt-div-mul-add, mul-pos, mul-div-mul-left}
 use native.Mathlib.Omega.{arith}
+
+-- A factor that dividend and divisor share changes no quotient.
+pub shared-factor : (m x y : ℕ) {n d : ℕ} → 0 < m → n ≡ m * x → d ≡ m * y → n / d ≡ x / y
+shared-factor m x y some p q = ap₂ (λ a b. a / b) p q ∙ mul-div-mul-left x y some
 
 -- The scaling x ↦ x a / b.
 module _ (a b : ℕ) (b-some : 0 < b) where
@@ -17,13 +22,18 @@ module _ (a b : ℕ) (b-some : 0 < b) where
       in
       omega arith
 
-  -- ((y + 1) b - 1) / a is the last x that is scaled to y or less
-  pub inverse-from : (y : ℕ) → ((y + 1) * b - 1) / a * a / b ≤ y
-  inverse-from y =
-      let l : ((y + 1) * b - 1) / a * a / b < y + 1 =
-      div-lt-iff-lt-mul b-some .1 (omega (arith, div-mul-le-self ((y + 1) * b - 1) a))
-      in
-      omega arith
+  -- (y b - 1) / a is the last x that is scaled below y: the numbers up to it are, and no later one is
+  module _ (a-some : 0 < a) (x y : ℕ) where
+    pub last-of-below : x * a / b < y → x ≤ (y * b - 1) / a
+    last-of-below h = le-div-iff-mul-le a-some .1 (omega (arith, div-lt-iff-lt-mul b-some .0 h))
 
-  pub inverse-before : 0 < a → (y : ℕ) → y < (((y + 1) * b - 1) / a + 1) * a / b
-  inverse-before a-some y = le-div-iff-mul-le b-some .1 (omega (arith, lt-div-mul-add {a = (y + 1) * b - 1} a-some))
+    pub below-of-last : 0 < y → x ≤ (y * b - 1) / a → x * a / b < y
+    below-of-last some h =
+        div-lt-iff-lt-mul b-some .1 (omega (arith, le-div-iff-mul-le a-some .0 h, mul-pos some b-some))
+
+    pub after-of-from : 0 < y → y ≤ x * a / b → (y * b - 1) / a < x
+    after-of-from some h =
+        div-lt-iff-lt-mul a-some .1 (omega (arith, le-div-iff-mul-le b-some .0 h, mul-pos some b-some))
+
+    pub from-of-after : (y * b - 1) / a < x → y ≤ x * a / b
+    from-of-after h = le-div-iff-mul-le b-some .1 (omega (arith, div-lt-iff-lt-mul a-some .0 h))

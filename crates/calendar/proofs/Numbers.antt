@@ -1,51 +1,31 @@
 -- Middle qi, numbers and leap marks: the worded rules and the closed forms agree.
-use Prim.Native.Nat.{ℕ, zero, suc, _+_, _*_, _/_, _%_, _≤_, _<_}
+use Prim.Native.Nat.{ℕ, zero, suc, _+_, _*_, _/_, _%_}
 use mathlib.Core.Path.{_≡_, _∙_, subst, sym, ap}
 use mathlib.Core.Logic.{inl, inr, ⊎-elim}
-use native.Mathlib.Nat.{le-div-iff-mul-le, div-lt-iff-lt-mul, div-mul-le-self, lt-div-mul-add}
-use native.Mathlib.Nat.{le-of-mul-le-mul-right, lt-of-mul-lt-mul-right, mul-le-mul-right, mul-lt-mul-of-pos-right}
 use native.Mathlib.Omega.{arith}
 use Rattle.calendar.specs.declared.data.Constants.{Constants}
-use Rattle.calendar.specs.Month.{middleQi, Holds, HoldsSome, Lacks, numberOf, Bears, ordinary, leap, Marked}
+use Rattle.calendar.specs.Qi.{dayOf}
+use Rattle.calendar.specs.Month.{InMonth, middleQi, Holds, HoldsSome, Lacks, numberOf, Bears, ordinary, leap, Marked}
 use Rattle.calendar.specs.Consistent.{Consistent}
 use Rattle.calendar.specs.Calendar.{Calendar}
-use Rattle.calendar.specs.ClosedForms.{monthOfQi, qiOfMonth, monthNumber, leapMark}
+use Rattle.calendar.specs.ClosedForms.{monthOfDay, monthOfQi, qiOfMonth, monthNumber, leapMark}
 use Rattle.calendar.proofs.Rising.{by-order}
-use Rattle.calendar.proofs.EveryCalendar.{Held, by-held, qi-of-held, held, qi-of-lacking, behind-most}
-use Rattle.calendar.proofs.Steps.{exact}
+use Rattle.calendar.proofs.EveryCalendar.{Held, by-held, month-unique, qi-of-held, held, qi-of-lacking, behind-most}
+use Rattle.calendar.proofs.Steps.{qi-day}
 use Rattle.calendar.proofs.Reckoned.{reckoned}
 
 module _ (c : Constants) (ok : Consistent c) where
   abbrev K : Calendar
   K = reckoned c ok
 
-  -- twelve times the moment of middle qi j of year n is (12 n + j) years, in small units
-  twelve-times : (n j : ℕ) → 12 * middleQi c n j ≡ (12 * n + j) * c .year * c .units
-  twelve-times n j = omega (arith, exact c 24 (ok .steps-close) n (2 * j))
-
   pub month-of-held : (k n j : ℕ) → Holds c k n j → monthOfQi c (12 * n + j) ≡ k
   month-of-held k n j h =
-      let e = twelve-times n j in
-      let a : k ≤ monthOfQi c (12 * n + j) =
-      le-div-iff-mul-le {k = 12 * c .month} (omega (arith, ok)) .1
-      (le-of-mul-le-mul-right {k = c .units} (omega (arith, h .0)) (ok .units-some))
-      in
-      let b : monthOfQi c (12 * n + j) < k + 1 =
-      div-lt-iff-lt-mul {k = 12 * c .month} (omega (arith, ok)) .1
-      (lt-of-mul-lt-mul-right (c .units) (omega (arith, h .1)))
-      in
-      omega arith
+      sym (month-unique K k (dayOf c (middleQi c n j)) (h .0) (h .1) ∙ ap (monthOfDay c) (qi-day c ok n j))
 
   pub holds-of-month : (k n j : ℕ) → monthOfQi c (12 * n + j) ≡ k → Holds c k n j
   holds-of-month k n j e =
-      let g = (12 * n + j) * c .year in
-      let a : k * (12 * c .month) ≤ g = subst (λ q. q * (12 * c .month) ≤ g) e (div-mul-le-self g (12 * c .month)) in
-      let b : g < k * (12 * c .month) + 12 * c .month =
-      subst (λ q. g < q * (12 * c .month) + 12 * c .month) e (lt-div-mul-add {a = g} {b = 12 * c .month} (omega (arith, ok)))
-      in (
-        omega (arith, twelve-times n j, mul-le-mul-right (c .units) a),
-        omega (arith, twelve-times n j, mul-lt-mul-of-pos-right {k = c .units} b (ok .units-some)),
-      )
+      let d = dayOf c (middleQi c n j) in
+      subst (λ l. InMonth c l d) (ap (monthOfDay c) (qi-day c ok n j) ∙ e) (K .day-from d, K .day-before d)
 
   -- A month holds a middle qi just when the last one up to its end is in it.
   pub held-of-holds : (k : ℕ) → HoldsSome c k → Held K k

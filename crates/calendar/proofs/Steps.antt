@@ -1,12 +1,15 @@
 -- Equal steps of a year, and moments told as days, parts and small units.
 use Prim.Native.Nat.{ℕ, _+_, _*_, _/_, _%_, _<_}
-use mathlib.Core.Path.{_≡_, refl, ap, _∙_}
-use native.Mathlib.Nat.{div-add-mod', mod-lt, mul-div-cancel}
+use mathlib.Core.Path.{_≡_, refl, ap, sym, _∙_}
+use native.Mathlib.Nat.{div-add-mod', mod-lt, mul-div-cancel, div-div-eq-div-mul}
 use native.Mathlib.Omega.{arith}
 use Rattle.calendar.specs.declared.data.Constants.{Constants}
 use Rattle.calendar.specs.Systems.{guantian, jiyuan}
 use Rattle.calendar.specs.Qi.{solstice, solsticeDay, solsticeRemainder, step, moment, qi, dayOf, partsOf, unitsOf}
+use Rattle.calendar.specs.Month.{middleQi}
 use Rattle.calendar.specs.Consistent.{Consistent}
+use Rattle.calendar.specs.ClosedForms.{dayOfQi}
+use Rattle.calendar.proofs.Division.{shared-factor}
 
 -- s steps make a year: s divides its small units.
 module _ (c : Constants) (s : ℕ) (closes : s * step c s ≡ c .year * c .units) where
@@ -21,21 +24,40 @@ module _ (c : Constants) (s : ℕ) (closes : s * step c s ≡ c .year * c .units
   pub steps-close : (n : ℕ) → moment c s n s ≡ solstice c (n + 1) * c .units
   steps-close n = omega (arith, closes)
 
+  -- the day of moment i: with s steps to a year it falls s n + i steps after the epoch
+  pub step-day : 0 < s → 0 < c .units → (n i : ℕ) → dayOf c (moment c s n i) ≡ (s * n + i) * c .year / (s * c .solar)
+  step-day steps units n i =
+      let u = moment c s n i in
+      let whole = exact n i in
+      div-div-eq-div-mul u (c .units) (c .solar)
+      ∙ sym (shared-factor s u (c .units * c .solar) {n = s * u} steps refl refl)
+      ∙ shared-factor (c .units) ((s * n + i) * c .year) (s * c .solar) units (omega arith) (omega arith)
+
+-- Middle qi, counted on from the epoch, twelve to a year: their days by the closed form.
+pub qi-day : (c : Constants) → Consistent c → (n j : ℕ) → dayOf c (middleQi c n j) ≡ dayOfQi c (12 * n + j)
+qi-day c ok n j =
+    step-day c 24 (ok .steps-close) (omega arith) (ok .units-some) n (2 * j)
+    ∙ shared-factor 2 ((12 * n + j) * c .year) (12 * c .solar) (omega arith) (omega arith) (omega arith)
+
+-- The first of a year falls on the solstice's day.
+pub solstice-day : (c : Constants) (n : ℕ) → solsticeDay c n ≡ dayOfQi c (12 * n)
+solstice-day c n = sym (shared-factor 12 (solstice c n) (c .solar) (omega arith) (omega arith) refl)
+
 -- Qi 24 of a year is qi 0 of the next.
 pub qi-closes : (c : Constants) → Consistent c → (n : ℕ) → qi c n 24 ≡ qi c (n + 1) 0
 qi-closes c ok n = omega (arith, steps-close c 24 (ok .steps-close) n)
 
 -- A moment is what it is told as.
 pub record Told (c : Constants) (u : ℕ) : Type 0 where
-  pub whole : u ≡ (dayOf c u * c .day + partsOf c u) * c .units + unitsOf c u
-  pub parts-below : partsOf c u < c .day
+  pub whole : u ≡ (dayOf c u * c .solar + partsOf c u) * c .units + unitsOf c u
+  pub parts-below : partsOf c u < c .solar
   pub units-below : unitsOf c u < c .units
 
 pub told : (c : Constants) → Consistent c → (u : ℕ) → Told c u
 told c ok u =
     record {
-      whole = omega (arith, div-add-mod' u (c .units), ap (λ x. x * c .units) (div-add-mod' (u / c .units) (c .day)));
-      parts-below = mod-lt (u / c .units) (ok .day-some);
+      whole = omega (arith, div-add-mod' u (c .units), ap (λ x. x * c .units) (div-add-mod' (u / c .units) (c .solar)));
+      parts-below = mod-lt (u / c .units) (ok .solar-some);
       units-below = mod-lt u (ok .units-some);
     }
 
@@ -56,7 +78,7 @@ pub qi-zero : (c : Constants) → Consistent c → (n : ℕ)
 qi-zero c ok n =
     let here : qi c n 0 ≡ solstice c n * c .units = omega arith in
     let whole : qi c n 0 / c .units ≡ solstice c n = ap (λ u. u / c .units) here ∙ mul-div-cancel (solstice c n) (ok .units-some) in (
-      ap (λ t. t / c .day) whole,
-      ap (λ t. t % c .day) whole,
+      ap (λ t. t / c .solar) whole,
+      ap (λ t. t % c .solar) whole,
       omega (arith, div-add-mod' (qi c n 0) (c .units), ap (λ t. t * c .units) whole),
     )

@@ -6,19 +6,27 @@ use lib.Dec.{ltb}
 use Rattle.calendar.specs.declared.data.Constants.{Constants}
 use Rattle.calendar.specs.Month.{monthHead, numberOf}
 
--- The month that has day d: the last whose head is at or before d. k M / D ≤ d just when k M ≤ (d + 1) D - 1.
+-- The month that has day d: the last whose head is d or earlier. k M / D ≤ d just when k M ≤ (d + 1) D - 1.
 abbrev pub monthOfDay : Constants → ℕ → ℕ
-monthOfDay c d = ((d + 1) * c .day - 1) / c .month
+monthOfDay c d = ((d + 1) * c .lunar - 1) / c .month
 
--- The month that holds middle qi g, which falls g twelfths of Y from the epoch.
+-- The day of middle qi g, which falls g twelfths of Y from the epoch.
+abbrev pub dayOfQi : Constants → ℕ → ℕ
+dayOfQi c g = g * c .year / (12 * c .solar)
+
+-- The month that holds middle qi g: the one that has its day.
 abbrev pub monthOfQi : Constants → ℕ → ℕ
-monthOfQi c g = g * c .year / (12 * c .month)
+monthOfQi c g = monthOfDay c (dayOfQi c g)
 
--- The last middle qi before the end of month k: g Y < 12 (k + 1) M just when g Y ≤ (k + 1) 12 M - 1.
+-- The last middle qi on a day before d: g Y / (12 D) < d just when g Y ≤ d (12 D) - 1.
+abbrev pub qiBefore : Constants → ℕ → ℕ
+qiBefore c d = (d * (12 * c .solar) - 1) / c .year
+
+-- The last middle qi on a day of month k or earlier.
 abbrev pub qiOfMonth : Constants → ℕ → ℕ
-qiOfMonth c k = ((k + 1) * (12 * c .month) - 1) / c .year
+qiOfMonth c k = qiBefore c (monthHead c (k + 1))
 
--- The month that year n begins with: it holds the solstice, the year's first middle qi.
+-- The month that year n begins with: it has the day of the solstice, the year's first middle qi.
 abbrev pub firstMonth : Constants → ℕ → ℕ
 firstMonth c n = monthOfQi c (12 * n)
 
@@ -46,6 +54,6 @@ qiOfNumber n number = 12 * n + (number + 1) % 12
 abbrev pub monthCited : Constants → ℕ → ℕ → ℕ → ℕ
 monthCited c n number mark = monthOfQi c (qiOfNumber n number) + mark
 
--- The month right after the ordinary one is leap: it ends before the next middle qi.
+-- The month right after the ordinary one is leap: it ends before the day of the next middle qi.
 abbrev pub leapFollows : Constants → ℕ → ℕ → Bool
 leapFollows c n number = ltb (monthOfQi c (qiOfNumber n number) + 1) (monthOfQi c (qiOfNumber n number + 1))

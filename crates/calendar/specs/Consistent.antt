@@ -1,21 +1,24 @@
--- What the laws ask of a system's constants: a short list, checked for each system by computing.
+-- What the laws ask of a system's constants: a short list, checked for each system by computing. Nothing in it sets the
+-- sun's parts against the moon's.
 use Prim.Native.Nat.{_+_, _*_, _%_, _≤_, _<_}
 use mathlib.Core.Path.{_≡_}
 use Rattle.calendar.specs.declared.data.Constants.{Constants}
 use Rattle.calendar.specs.Qi.{step}
 
 pub record Consistent (c : Constants) : Type 0 where
-  pub day-some : 0 < c .day
+  -- what moments are divided by
+  pub solar-some : 0 < c .solar
+  pub lunar-some : 0 < c .lunar
   pub units-some : 0 < c .units
-  -- twelve months have 354 to 355 days, and thirteen 383 to 384
-  pub twelve-least : 354 * c .day ≤ 12 * c .month
-  pub twelve-most : 12 * c .month ≤ 355 * c .day
-  pub thirteen-least : 383 * c .day ≤ 13 * c .month
-  pub thirteen-most : 13 * c .month ≤ 384 * c .day
-  -- a year has twelve to thirteen months
-  pub year-least : 12 * c .month ≤ c .year
-  pub year-most : c .year ≤ 13 * c .month
-  -- 24 divides the small units of a year
+  -- months of 29 days at least, twelve of 354 and thirteen of 383
+  pub months-least : 354 * c .lunar ≤ 12 * c .month
+  -- months of 30 days at most, twelve of 355 and thirteen of 384
+  pub months-most : 13 * c .month ≤ 384 * c .lunar
+  -- 30 days at least from one middle qi to the next, as long as any month: no month holds two
+  pub year-least : 360 * c .solar ≤ c .year
+  -- 383 days at most from a middle qi to the twelfth after it, no longer than any thirteen months: they take no more
+  pub year-most : c .year ≤ 383 * c .solar
+  -- 24 divides the small units of a year: no qi is rounded
   pub steps-close : 24 * step c 24 ≡ c .year * c .units
   -- the name of count day 0 puts the names of register days on (r + 49) % 60
   pub names-agree : (c .anchor + c .name) % 60 ≡ 49

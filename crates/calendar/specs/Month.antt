@@ -3,7 +3,7 @@ use Prim.Native.Nat.{ℕ, _+_, _*_, _-_, _/_, _%_, _≤_, _<_}
 use mathlib.Core.Path.{_≡_}
 use mathlib.Core.Logic.{_⊎_}
 use Rattle.calendar.specs.declared.data.Constants.{Constants}
-use Rattle.calendar.specs.Qi.{qi}
+use Rattle.calendar.specs.Qi.{qi, dayOf}
 
 -- Reckoning, mean new moon: k times M parts from the epoch.
 abbrev pub newMoon : Constants → ℕ → ℕ
@@ -11,7 +11,7 @@ newMoon c k = k * c .month
 
 -- A month's head is its first day: the new moon's count day.
 abbrev pub monthHead : Constants → ℕ → ℕ
-monthHead c k = newMoon c k / c .day
+monthHead c k = newMoon c k / c .lunar
 
 -- Reckoning, the days of month k: from the day of its new moon on, and before that of the next.
 abbrev pub InMonth : Constants → ℕ → ℕ → Type 0
@@ -29,10 +29,9 @@ dayOfMonth c k place = monthHead c k + place - 1
 abbrev pub middleQi : Constants → ℕ → ℕ → ℕ
 middleQi c n j = qi c n (2 * j)
 
--- Reckoning, held middle qi: the moment of middle qi j of year n falls in month k, which runs from new moon to new
--- moon.
+-- Paper 02, Q-2, held middle qi: month k holds middle qi j of year n when the qi's day is one of the month's days.
 abbrev pub Holds : Constants → ℕ → ℕ → ℕ → Type 0
-Holds c k n j = (newMoon c k * c .units ≤ middleQi c n j) × (middleQi c n j < newMoon c (k + 1) * c .units)
+Holds c k n j = InMonth c k (dayOf c (middleQi c n j))
 
 -- Month k holds a middle qi, of whichever year.
 pub record HoldsSome (c : Constants) (k : ℕ) : Type 0 where

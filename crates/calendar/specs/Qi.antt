@@ -9,11 +9,11 @@ solstice c n = n * c .year
 
 -- Its count day is T by D, whole.
 abbrev pub solsticeDay : Constants → ℕ → ℕ
-solsticeDay c n = solstice c n / c .day
+solsticeDay c n = solstice c n / c .solar
 
 -- Its remainder is what is left.
 abbrev pub solsticeRemainder : Constants → ℕ → ℕ
-solsticeRemainder c n = solstice c n % c .day
+solsticeRemainder c n = solstice c n % c .solar
 
 -- One of s equal steps of a year, in small units. Where s divides the year's small units, nothing is lost.
 abbrev pub step : Constants → ℕ → ℕ
@@ -30,10 +30,10 @@ qi c n i = moment c 24 n i
 
 -- A moment in small units is told as its count day, parts and small units.
 abbrev pub dayOf : Constants → ℕ → ℕ
-dayOf c u = u / c .units / c .day
+dayOf c u = u / c .units / c .solar
 
 abbrev pub partsOf : Constants → ℕ → ℕ
-partsOf c u = u / c .units % c .day
+partsOf c u = u / c .units % c .solar
 
 abbrev pub unitsOf : Constants → ℕ → ℕ
 unitsOf c u = u % c .units

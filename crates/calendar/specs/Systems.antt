@@ -9,7 +9,8 @@ use Rattle.calendar.specs.declared.data.Constants.{Constants}
 abbrev pub guantian : Constants
 guantian =
     record {
-      day = 12_030;
+      solar = 12_030;
+      lunar = 12_030;
       year = 4_393_880;
       month = 355_253;
       units = 36;
@@ -23,7 +24,8 @@ guantian =
 abbrev pub jiyuan : Constants
 jiyuan =
     record {
-      day = 7290;
+      solar = 7290;
+      lunar = 7290;
       year = 2_662_626;
       month = 215_278;
       units = 4;

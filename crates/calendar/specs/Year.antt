@@ -1,12 +1,12 @@
 -- Years: their months and their days. A year is told by n, the years elapsed since the epoch.
 use Prim.Native.Nat.{ℕ, zero, suc, _+_, _-_, _≤_, _<_}
 use Rattle.calendar.specs.declared.data.Constants.{Constants}
-use Rattle.calendar.specs.Qi.{solstice}
-use Rattle.calendar.specs.Month.{newMoon, monthHead, monthLength, Bears, Marked}
+use Rattle.calendar.specs.Qi.{solsticeDay}
+use Rattle.calendar.specs.Month.{monthHead, InMonth, monthLength, Bears, Marked}
 
--- Reckoning, a year's beginning: of the new moons not after the solstice, month k has the last.
+-- Paper 02, Q-2, a year's beginning: year n begins with month k when the solstice's day is one of the month's days.
 abbrev pub Begins : Constants → ℕ → ℕ → Type 0
-Begins c n k = (newMoon c k ≤ solstice c n) × ((j : ℕ) → newMoon c j ≤ solstice c n → j ≤ k)
+Begins c n k = InMonth c k (solsticeDay c n)
 
 -- What bounds year n: the month that it begins with, and the month so found for the year after.
 pub record Span (c : Constants) (n : ℕ) : Type 0 where

@@ -9,8 +9,9 @@ pub struct Ordinal(pub u16);
 
 // What differs between two systems. Paper 01, "Constants", a field a row.
 pub struct Constants {
-    // Parts in a day, D.
-    pub day: u64,
+    // Parts in a day, D, of the year and of the month: no rule sets solar parts against lunar ones.
+    pub solar: u64,
+    pub lunar: u64,
     // Parts in a year, Y.
     pub year: u64,
     // Parts in a mean month, M.

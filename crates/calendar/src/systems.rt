@@ -7,7 +7,8 @@ pub fn guantian() -> Constants
     ensures { λ r. ⌜ r ≡ guantian ⌝ }
 {
     Constants {
-        day: 12_030,
+        solar: 12_030,
+        lunar: 12_030,
         year: 4_393_880,
         month: 355_253,
         units: 36,
@@ -22,7 +23,8 @@ pub fn jiyuan() -> Constants
     ensures { λ r. ⌜ r ≡ jiyuan ⌝ }
 {
     Constants {
-        day: 7290,
+        solar: 7290,
+        lunar: 7290,
         year: 2_662_626,
         month: 215_278,
         units: 4,
