@@ -9,6 +9,8 @@ pub mod Rising
 pub mod EveryCalendar
 -- Constants that meet the list make a calendar.
 pub mod Reckoned
+-- A month's bounds and leap mark by what divisions leave over.
+pub mod Remainders
 -- The worded rules and the closed forms: the months of a year.
 pub mod Spans
 -- The worded rules and the closed forms: middle qi, numbers and leap marks.
