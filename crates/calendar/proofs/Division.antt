@@ -1,7 +1,7 @@
 -- Whole division: what a step of the dividend does to the quotient, and how a scaling is inverted.
 use Prim.Native.Nat.{ℕ, _+_, _*_, _-_, _/_, _≤_, _<_}
 use mathlib.Core.Path.{_≡_, ap₂, _∙_}
-use native.Mathlib.Nat.{le-div-iff-mul-le, div-lt-iff-lt-mul, div-mul-le-self, lt-div-mul-add, mul-pos, mul-div-mul-left}
+use native.Mathlib.Nat.{le-div-iff-mul-le, div-lt-iff-lt-mul, div-mul-le-self, lt-div-mul-add, mul-pos, mul-div-mul-left, div-le-of-le-mul, mul-le-mul-left}
 use native.Mathlib.Omega.{arith}
 
 -- A factor that dividend and divisor share changes no quotient.
@@ -21,6 +21,10 @@ module _ (a b : ℕ) (b-some : 0 < b) where
       div-lt-iff-lt-mul b-some .1 (omega (arith, lt-div-mul-add {a = x * a} b-some))
       in
       omega arith
+
+  -- it is at most s x, if a is at most s b
+  pub scaled-small : (s x : ℕ) → a ≤ s * b → x * a / b ≤ s * x
+  scaled-small s x h = div-le-of-le-mul b (omega (arith, mul-le-mul-left x h))
 
   -- (y b - 1) / a is the last x that is scaled below y: the numbers up to it are, and no later one is
   module _ (a-some : 0 < a) (x y : ℕ) where

@@ -6,7 +6,7 @@ use Rattle.calendar.specs.Month.{monthHead}
 use Rattle.calendar.specs.Consistent.{Consistent}
 use Rattle.calendar.specs.Calendar.{Calendar}
 use Rattle.calendar.specs.ClosedForms.{monthOfDay, dayOfQi, monthOfQi, qiOfMonth}
-use Rattle.calendar.proofs.Division.{scaled-least, scaled-most, last-of-below, below-of-last, after-of-from, from-of-after}
+use Rattle.calendar.proofs.Division.{scaled-least, scaled-most, scaled-small, last-of-below, below-of-last, after-of-from, from-of-after}
 
 module _ (c : Constants) (ok : Consistent c) where
   pub month-some : 0 < c .month
@@ -24,6 +24,13 @@ module _ (c : Constants) (ok : Consistent c) where
 
   pub head-most : (n s k : ℕ) → n * c .month ≤ s * c .lunar → monthHead c (k + n) ≤ monthHead c k + s
   head-most = scaled-most (c .month) (c .lunar) (ok .lunar-some)
+
+  -- the days of months and of middle qi, against their counts
+  pub head-small : (k : ℕ) → monthHead c k ≤ 30 * k
+  head-small k = scaled-small (c .month) (c .lunar) (ok .lunar-some) 30 k (omega (arith, ok))
+
+  pub qi-day-small : (g : ℕ) → dayOfQi c g ≤ 32 * g
+  qi-day-small g = scaled-small (c .year) (12 * c .solar) twelfths-some 32 g (omega (arith, ok))
 
   -- a month whose head is d or earlier is the month of d or an earlier one, and one whose head is later is later
   pub month-from : (k d : ℕ) → monthHead c k ≤ d → k ≤ monthOfDay c d

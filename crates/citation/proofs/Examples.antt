@@ -1,24 +1,28 @@
--- The ten proved examples of paper 01: one statement over a table, computed.
-use Prim.Native.Nat.{ℕ, _-_, _/_, _%_}
+-- The proved examples of paper 01 as paper 02, Q-2, has them: one statement over a table, computed.
+use Prim.Native.Nat.{ℕ, _+_, _-_, _/_, _%_}
 use mathlib.Core.Path.{_≡_, refl}
 use mathlib.Core.List.{List, [], _∷_, map}
 use lib.ListN.{replicate}
 use Rattle.calendar.specs.Systems.{constantsOf, yearsElapsed}
 use Rattle.calendar.specs.SixtyDayName.{nameOf}
-use Rattle.calendar.specs.Qi.{solstice}
-use Rattle.calendar.specs.Month.{newMoon}
+use Rattle.calendar.specs.Qi.{solstice, qi, dayOf}
+use Rattle.calendar.specs.Month.{newMoon, monthHead}
 use Rattle.calendar.specs.ClosedForms.{firstMonth}
 use Rattle.reckoning.specs.Filled.{filled}
-use Rattle.reckoning.specs.ComputedRefusals.{yearRefusal}
-use Rattle.reckoning.specs.Requests.{solsticeOf, yearOf, monthsFrom, daysOf, monthOf, monthIn, dateOf, dateIn}
+use Rattle.reckoning.specs.ComputedRefusals.{yearRefusal, qiRefusal}
+use Rattle.reckoning.specs.Requests.{solsticeOf, qiOf, yearOf, monthsFrom, daysOf, monthOf, monthIn, dateOf, dateIn}
 use Rattle.citation.specs.Store.{judgeRegisterDay, judgeOrdinal, judgeDay, judgeName, judgeKind, lengthRight, judgeOf, refusalOf, storedInto}
 use Rattle.reckoning.specs.YearValue.{headIn, numberIn, leapIn}
 
 pub data Question : Type 0 where
   -- the day, name and remainder of a solstice
   Solstice : ℕ → ℕ → Question
-  -- how many parts a year's first new moon stands before the solstice; its day, name and remainder
+  -- how many parts a year's first new moon stands before the solstice, where solar and lunar parts are one; its day,
+  -- name and remainder
   FirstMoon : ℕ → ℕ → Question
+  -- the day of a qi; how many days and how many parts it falls before the new moon of a month by its place from 1
+  Qi : ℕ → ℕ → ℕ → Question
+  BeforeMoon : ℕ → ℕ → ℕ → ℕ → Question
   -- a year's head, months and days
   Head : ℕ → ℕ → Question
   Months : ℕ → ℕ → Question
@@ -37,7 +41,14 @@ answer (FirstMoon system year) =
     let n = yearsElapsed c year in
     let moon = newMoon c (firstMonth c n) in
     let head = headIn (yearOf system year) 0 in
-    (solstice c n - moon) ∷ head ∷ (nameOf head) ∷ (moon % c .day) ∷ []
+    (solstice c n - moon) ∷ head ∷ (nameOf head) ∷ (moon % c .lunar) ∷ []
+answer (Qi system year i) = ((qiOf system year i) .day .0) ∷ []
+answer (BeforeMoon system year i place) =
+    let c = constantsOf system in
+    let n = yearsElapsed c year in
+    let k = firstMonth c n + place - 1 in
+    let moment = qi c n i in
+    (monthHead c k - dayOf c moment) ∷ (newMoon c k - moment / c .units) ∷ []
 answer (Head system year) = (headIn (yearOf system year) 0) ∷ []
 answer (Months system year) = ((yearOf system year) .count) ∷ []
 answer (Days system year) = let v = yearOf system year in (headIn v (v .count) - headIn v 0) ∷ []
@@ -52,16 +63,19 @@ answer (Stored s) = storedInto s (replicate 10 0)
 then : ℕ → List ℕ → List ℕ
 then n rest = (n % 256) ∷ (n / 256) ∷ rest
 
--- Citations by ordinal and by name.
+-- Citations by ordinal, by date and by name.
 byOrdinal : ℕ → ℕ → ℕ → List ℕ
 byOrdinal system year ordinal = 9 ∷ 0 ∷ 3 ∷ 0 ∷ system ∷ then year (then ordinal [])
+
+byDate : ℕ → ℕ → ℕ → ℕ → ℕ → List ℕ
+byDate system year month leap day = 10 ∷ 0 ∷ 1 ∷ 0 ∷ system ∷ then year (month ∷ leap ∷ day ∷ [])
 
 byName : ℕ → ℕ → ℕ → ℕ → ℕ → List ℕ
 byName system year month leap name = 10 ∷ 0 ∷ 2 ∷ 0 ∷ system ∷ then year (month ∷ leap ∷ name ∷ [])
 
 -- The first record of case 9, as which all four are stored.
 pub first-of-case-9 : List ℕ
-first-of-case-9 = 0x0A ∷ 0x00 ∷ 0x01 ∷ 0x00 ∷ 0x01 ∷ 0x46 ∷ 0x04 ∷ 0x05 ∷ 0x01 ∷ 0x01 ∷ []
+first-of-case-9 = 0x0A ∷ 0x00 ∷ 0x01 ∷ 0x00 ∷ 0x01 ∷ 0x46 ∷ 0x04 ∷ 0x05 ∷ 0x00 ∷ 0x01 ∷ []
 
 infix 20 _gives_
 -- A question and the paper's answer.
@@ -94,24 +108,33 @@ table =
     ∷ (Months 1 1094 gives (13 ∷ []))
     ∷ (Days 1 1094 gives (384 ∷ []))
     ∷ (Refusal (byOrdinal 1 1094 385) gives (7 ∷ []))
-    -- case 6
-    ∷ (Number 1 1094 8 gives (5 ∷ 1 ∷ []))
+    -- case 6: ordinary month 5, and the month before it is leap 4
+    ∷ (Number 1 1094 8 gives (5 ∷ 0 ∷ []))
     ∷ (Month 1 1094 8 gives (2_120_808 ∷ 29 ∷ []))
+    ∷ (Number 1 1094 7 gives (4 ∷ 1 ∷ []))
+    -- the summer solstice falls just before its new moon, on the same day
+    ∷ (Qi 1 1094 12 gives (2_120_808 ∷ []))
+    ∷ (BeforeMoon 1 1094 12 8 gives (0 ∷ 76 ∷ []))
+    -- a leap month 5 is refused, by date and by name
+    ∷ (Refusal (byDate 1 1094 5 1 1) gives (6 ∷ []))
+    ∷ (Refusal (byName 1 1094 5 1 37) gives (6 ∷ []))
     -- cases 7 and 8
     ∷ (Solstice 2 1106 gives (2_125_008 ∷ 37 ∷ 4536 ∷ []))
     ∷ (FirstMoon 2 1106 gives (50_806 ∷ 2_125_001 ∷ 30 ∷ 4760 ∷ []))
     ∷ (Months 2 1106 gives (12 ∷ []))
     -- case 9: four records of one day
     ∷ (Stored first-of-case-9 gives first-of-case-9)
-    ∷ (Stored (0x0A ∷ 0x00 ∷ 0x02 ∷ 0x00 ∷ 0x01 ∷ 0x46 ∷ 0x04 ∷ 0x05 ∷ 0x01 ∷ 0x25 ∷ []) gives first-of-case-9)
+    ∷ (Stored (0x0A ∷ 0x00 ∷ 0x02 ∷ 0x00 ∷ 0x01 ∷ 0x46 ∷ 0x04 ∷ 0x05 ∷ 0x00 ∷ 0x25 ∷ []) gives first-of-case-9)
     ∷ (Stored (0x09 ∷ 0x00 ∷ 0x03 ∷ 0x00 ∷ 0x01 ∷ 0x46 ∷ 0x04 ∷ 0xD0 ∷ 0x00 ∷ []) gives first-of-case-9)
     ∷ (Stored (0x09 ∷ 0x00 ∷ 0x04 ∷ 0x00 ∷ 0x01 ∷ 0x68 ∷ 0x5C ∷ 0x20 ∷ 0x00 ∷ []) gives first-of-case-9)
-    -- case 10: the second month is leap 11
-    ∷ (Months 2 1108 gives (13 ∷ []))
-    ∷ (Number 2 1108 2 gives (11 ∷ 1 ∷ []))
+    -- case 10: the solstice of 1108 falls on the day of the next new moon, so that the last month of 1107 is leap 10
+    ∷ (BeforeMoon 2 1108 0 1 gives (0 ∷ 5892 ∷ []))
+    ∷ (Months 2 1107 gives (13 ∷ []))
+    ∷ (Number 2 1107 13 gives (10 ∷ 1 ∷ []))
+    ∷ (Months 2 1108 gives (12 ∷ []))
     ∷ []
 
 pub examples : map asked table ≡ map expected table
-unfolding answer asked expected table first-of-case-9 then byOrdinal byName solsticeOf yearOf yearRefusal monthsFrom filled
+unfolding answer asked expected table first-of-case-9 then byOrdinal byDate byName solsticeOf qiOf yearOf yearRefusal qiRefusal monthsFrom filled
     refusalOf storedInto judgeOf lengthRight judgeKind judgeDay judgeName judgeOrdinal judgeRegisterDay daysOf monthOf monthIn dateOf dateIn
 examples = refl

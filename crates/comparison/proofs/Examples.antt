@@ -16,8 +16,8 @@ use Rattle.comparison.specs.Comparisons.{comparisonOf}
 abbrev listed : ℕ → ℕ → ℕ → List Listed
 listed first second year = let v = comparisonOf first second year in take (v .count) (v .places)
 
-pub examples : map (listed 1 2) (1094 ∷ 1105 ∷ 1832 ∷ [])
-    ≡ (record { place = 7; difference = Days (pos 0) } ∷ record { place = 8; difference = Days (pos 0) } ∷ [])
+pub examples : map (listed 1 2) (1162 ∷ 1105 ∷ 2022 ∷ [])
+    ≡ (record { place = 5; difference = Days (pos 0) } ∷ record { place = 6; difference = Days (pos 0) } ∷ [])
     ∷ (record { place = 9; difference = Days (pos 1) } ∷ [])
     ∷ (record { place = 13; difference = FirstLacks } ∷ [])
     ∷ []
@@ -25,7 +25,7 @@ unfolding comparisonOf comparisonRefusal listing placesUpTo isListed sameMonth d
 examples = refl
 
 -- The other way round.
-pub examples-swapped : map (listed 2 1) (1105 ∷ 1832 ∷ [])
+pub examples-swapped : map (listed 2 1) (1105 ∷ 2022 ∷ [])
     ≡ (record { place = 9; difference = Days (negsuc 0) } ∷ []) ∷ (record { place = 13; difference = SecondLacks } ∷ []) ∷ []
 unfolding comparisonOf comparisonRefusal listing placesUpTo isListed sameMonth differenceAt yearOf yearRefusal monthsFrom filled
 examples-swapped = refl

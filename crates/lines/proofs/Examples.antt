@@ -1,4 +1,4 @@
--- The run that paper 01 shows, computed: the four records of case 9 and a byte 00.
+-- The run that paper 01 shows, as paper 02, Q-2, has it, computed: the four records of case 9 and a byte 00.
 use mathlib.Core.Path.{_≡_, refl}
 use mathlib.Core.List.{List, [], _∷_, _++_}
 use Prim.Native.Nat.{ℕ}
@@ -12,15 +12,15 @@ use Rattle.lines.specs.Program.{framingWithin, linesOf, outputOf}
 
 abbrev pub case-9 : List ℕ
 case-9 =
-    (0x0A ∷ 0x00 ∷ 0x01 ∷ 0x00 ∷ 0x01 ∷ 0x46 ∷ 0x04 ∷ 0x05 ∷ 0x01 ∷ 0x01 ∷ [])
-    ++ (0x0A ∷ 0x00 ∷ 0x02 ∷ 0x00 ∷ 0x01 ∷ 0x46 ∷ 0x04 ∷ 0x05 ∷ 0x01 ∷ 0x25 ∷ [])
+    (0x0A ∷ 0x00 ∷ 0x01 ∷ 0x00 ∷ 0x01 ∷ 0x46 ∷ 0x04 ∷ 0x05 ∷ 0x00 ∷ 0x01 ∷ [])
+    ++ (0x0A ∷ 0x00 ∷ 0x02 ∷ 0x00 ∷ 0x01 ∷ 0x46 ∷ 0x04 ∷ 0x05 ∷ 0x00 ∷ 0x25 ∷ [])
     ++ (0x09 ∷ 0x00 ∷ 0x03 ∷ 0x00 ∷ 0x01 ∷ 0x46 ∷ 0x04 ∷ 0xD0 ∷ 0x00 ∷ [])
     ++ (0x09 ∷ 0x00 ∷ 0x04 ∷ 0x00 ∷ 0x01 ∷ 0x68 ∷ 0x5C ∷ 0x20 ∷ 0x00 ∷ [])
 
--- "G 1094 5* 1 2120808 37"
+-- "G 1094 5 1 2120808 37"
 abbrev pub day-line : List ℕ
 day-line =
-    71 ∷ 32 ∷ 49 ∷ 48 ∷ 57 ∷ 52 ∷ 32 ∷ 53 ∷ 42 ∷ 32 ∷ 49 ∷ 32 ∷ 50 ∷ 49 ∷ 50 ∷ 48 ∷ 56 ∷ 48 ∷ 56 ∷ 32 ∷ 51 ∷ 55 ∷ 10 ∷ []
+    71 ∷ 32 ∷ 49 ∷ 48 ∷ 57 ∷ 52 ∷ 32 ∷ 53 ∷ 32 ∷ 49 ∷ 32 ∷ 50 ∷ 49 ∷ 50 ∷ 48 ∷ 56 ∷ 48 ∷ 56 ∷ 32 ∷ 51 ∷ 55 ∷ 10 ∷ []
 
 -- "refused 1"
 abbrev pub last-line : List ℕ

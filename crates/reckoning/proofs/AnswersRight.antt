@@ -48,7 +48,7 @@ module _ (system year : ℕ) (s : InScope system year) where
       let t = told c (consistent system) (qi c n i) in
       let d = r .qi-day i h in
       let exact : registerDay c (dayOf c (qi c n i)) + c .anchor ≡ dayOf c (qi c n i) = omega (arith, d) in
-      let moment = ap (λ d. (d * c .day + partsOf c (qi c n i)) * c .units + unitsOf c (qi c n i)) exact ∙ sym (t .whole) in
+      let moment = ap (λ d. (d * c .solar + partsOf c (qi c n i)) * c .units + unitsOf c (qi c n i)) exact ∙ sym (t .whole) in
       subst (IsQi c n i)
       (answered (λ k m. qiIn k m i) noQi (askedOf (qiRefusal system year i) system year) _ refl (in-scope-qi system year i s h))
       (record { accepted = refl; moment = moment; parts-below = t .parts-below; units-below = t .units-below })

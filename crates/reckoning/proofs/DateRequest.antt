@@ -1,30 +1,27 @@
 -- The date of a register day: its numbers fit, and its year tells whether it is in scope.
-use Prim.Native.Nat.{ℕ, _+_, _/_, _^_, _≤_, _<_}
-use mathlib.Core.Path.{_≡_, subst, sym, ap, _∙_}
+use Prim.Native.Nat.{ℕ, _+_, _-_, _/_, _%_, _≤_, _<_}
+use mathlib.Core.Path.{_≡_, ap, _∙_}
 use mathlib.Core.Bool.{true, false}
 use native.Mathlib.Omega.{arith}
+use mir.Syntax.{w8}
+use mir.Val.{Fits}
 use borrow.Author.Tests.{lt-ltb, le-ltb, le-leb, lt-leb}
 use Rattle.calendar.specs.declared.data.Constants.{Constants}
 use Rattle.calendar.specs.Systems.{constantsOf, yearsElapsed}
-use Rattle.calendar.specs.Month.{monthHead}
+use Rattle.calendar.specs.Month.{monthHead, numberOf}
 use Rattle.calendar.specs.Calendar.{Calendar}
-use Rattle.calendar.specs.ClosedForms.{monthOfDay, monthOfQi, qiOfMonth, headOfYear, yearOfMonth}
+use Rattle.calendar.specs.ClosedForms.{monthOfDay, headOfYear, yearOfMonth}
 use Rattle.calendar.proofs.Rising.{by-order}
 use Rattle.calendar.proofs.Reckoned.{reckoned}
-use Rattle.calendar.proofs.EveryCalendar.{month-of-day-most, qi-of-month-most, behind-most, year-from, year-before}
+use Rattle.calendar.proofs.EveryCalendar.{year-from, year-before}
+use Rattle.reckoning.specs.declared.data.Date.{Date}
+use Rattle.reckoning.specs.declared.month_spans.MonthSpan.{MonthSpan}
+use Rattle.reckoning.specs.declared.month_spans.LastQi.{LastQi}
+use Rattle.reckoning.specs.MonthSpans.{monthSpan, lastQi}
 use Rattle.reckoning.specs.WordBounds.{ConstantsFit}
 use Rattle.reckoning.specs.ComputedRefusals.{outside, dayWrong}
-use Rattle.reckoning.specs.Requests.{noDate, dateAt, dateIn, dateOf}
+use Rattle.reckoning.specs.Requests.{noDate, dateIn, dateOf}
 use Rattle.reckoning.specs.RefusalNumbers.{DAY}
-
--- What is known of the month k of a count day d.
-pub record Dated (c : Constants) (d k : ℕ) : Type 0 where
-  pub month-small : k + 1 < 2 ^ 32
-  pub qi-small : qiOfMonth c k < 2 ^ 32
-  pub leap-from : monthOfQi c (qiOfMonth c k) ≤ k
-  pub leap-most : k ≤ monthOfQi c (qiOfMonth c k) + 1
-  pub head-from : monthHead c k ≤ d
-  pub head-most : d < monthHead c k + 30
 
 module _ (c : Constants) (fit : ConstantsFit c) where
   abbrev K : Calendar
@@ -32,21 +29,6 @@ module _ (c : Constants) (fit : ConstantsFit c) where
 
   epoch : c .common ≤ c .elapsed
   epoch = fit .consistent .epoch-before
-
-  dated-here : (d : ℕ) → d < 2 ^ 36 → Dated c d (monthOfDay c d)
-  dated-here d h =
-      let k = monthOfDay c d in
-      record {
-        month-small = omega (arith, month-of-day-most K d);
-        qi-small = omega (arith, month-of-day-most K d, qi-of-month-most K k);
-        leap-from = K .qi-from k;
-        leap-most = omega (arith, behind-most K k);
-        head-from = K .day-from d;
-        head-most = omega (arith, K .day-before d, K .month-most k);
-      }
-
-  pub dated : (d k : ℕ) → d < 2 ^ 36 → k ≡ monthOfDay c d → Dated c d k
-  dated d k h e = subst (Dated c d) (sym e) (dated-here d h)
 
   -- The years elapsed at the day, and the two heads that bound the scope.
   module _ (r : ℕ) where
@@ -80,23 +62,63 @@ module _ (c : Constants) (fit : ConstantsFit c) where
           lt-leb (headOfYear c (yearsElapsed c 3001)) (r + c .anchor) (before-head (yearsElapsed c 3001) (omega (arith, epoch))),
         )
 
--- The three cases of the request, by the day's year.
-module _ (c : Constants) (fit : ConstantsFit c) (r k g : ℕ) (month : k ≡ monthOfDay c (r + c .anchor)) (qi : g ≡ qiOfMonth c k) where
-  year-is : g / 12 ≡ yearOfMonth c (monthOfDay c (r + c .anchor))
-  year-is = ap (λ x. x / 12) (qi ∙ ap (qiOfMonth c) month)
+-- The request, by the day's month and its last middle qi.
+module _ {c : Constants} (fit : ConstantsFit c) (r : ℕ) {m : MonthSpan} {last : LastQi}
+    (month : m ≡ monthSpan c (monthOfDay c (r + c .anchor)))
+    (qi : last ≡ lastQi c (m .month))
+  where
+    abbrev k : ℕ
+    k = monthOfDay c (r + c .anchor)
 
-  pub date-early : g / 12 + c .common ≤ c .elapsed → noDate DAY ≡ dateIn c r
-  unfolding dateIn
-  date-early h = simp (too-early c fit r (omega (arith, year-is)))
+    -- the day's place in its month
+    head-is : m .head ≡ monthHead c k
+    head-is = ap (λ x. x .head) month
 
-  pub date-late : c .elapsed + 3000 < g / 12 + c .common → noDate DAY ≡ dateIn c r
-  unfolding dateIn
-  date-late h = simp (too-late c fit r (omega (arith, year-is)))
+    pub place-from : m .head ≤ r + c .anchor
+    place-from = omega (arith, head-is, (reckoned c (fit .consistent)) .day-from (r + c .anchor))
 
-  pub date-in-time : c .elapsed < g / 12 + c .common → g / 12 + c .common ≤ c .elapsed + 3000
-      → dateAt c (r + c .anchor) ≡ dateIn c r
-  unfolding dateIn
-  date-in-time a b = simp (in-time c fit r (omega (arith, year-is)) (omega (arith, year-is)))
+    pub place-fits : Fits w8 (r + c .anchor - m .head + 1)
+    place-fits =
+        let K = reckoned c (fit .consistent) in
+        omega (arith, head-is, K .day-before (r + c .anchor), K .month-most k)
+
+    -- its three cases
+    last-is : last ≡ lastQi c k
+    last-is = qi ∙ ap (λ x. lastQi c (x .month)) month
+
+    year-is : last .qi / 12 ≡ yearOfMonth c k
+    year-is = ap (λ x. x .qi / 12) last-is
+
+    pub date-early : {v : Date} → v ≡ noDate DAY → last .qi / 12 + c .common ≤ c .elapsed → v ≡ dateIn c r
+    unfolding dateIn
+    date-early e h = e ∙ simp (too-early c fit r (omega (arith, year-is)))
+
+    pub date-late : {v : Date} → v ≡ noDate DAY → c .elapsed + 3000 < last .qi / 12 + c .common → v ≡ dateIn c r
+    unfolding dateIn
+    date-late e h = e ∙ simp (too-late c fit r (omega (arith, year-is)))
+
+    pub date-in-time : {number : ℕ} → number ≡ numberOf (last .qi % 12)
+        → c .elapsed < last .qi / 12 + c .common
+        → last .qi / 12 + c .common ≤ c .elapsed + 3000
+        → record {
+          refusal = 0;
+          year = last .qi / 12 + c .common - c .elapsed;
+          month = number;
+          leap = last .leap;
+          day = r + c .anchor - m .head + 1;
+        } ≡ dateIn c r
+    unfolding dateIn
+    date-in-time number-is a b =
+        let number-here = number-is ∙ ap (λ x. numberOf (x .qi % 12)) last-is in
+        (λ j.
+        record {
+          refusal = 0;
+          year = year-is j + c .common - c .elapsed;
+          month = number-here j;
+          leap = last-is j .leap;
+          day = r + c .anchor - head-is j + 1;
+        })
+        ∙ simp (in-time c fit r (omega (arith, year-is)) (omega (arith, year-is)))
 
 -- A day is dated by the system that the request names.
 pub date-answered : (system r : ℕ) → outside 1 2 system ≡ false → dateIn (constantsOf system) r ≡ dateOf system r

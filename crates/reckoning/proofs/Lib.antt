@@ -7,6 +7,8 @@ pub mod ScopeInRegister
 pub mod AnswerUnless
 -- Direct requests are refused by their table.
 pub mod RefusedRequests
+-- Months with their bounds.
+pub mod MonthSpanLaws
 -- What the laws say of a year within the register.
 pub mod RegisterLaws
 -- The month of a year with a number and a leap mark.

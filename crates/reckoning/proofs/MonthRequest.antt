@@ -1,20 +1,23 @@
 -- The month of a year with a number and a leap mark: what each case of the request answers.
-use Prim.Native.Nat.{ℕ, _+_, _%_, _^_, _≤_, _<_}
+use Prim.Native.Nat.{ℕ, _+_, _%_, _≤_, _<_}
 use mathlib.Core.Path.{_≡_, subst, sym, ap, _∙_}
 use mathlib.Core.Bool.{true, false}
 use native.Mathlib.Omega.{arith}
+use borrow.Author.Tests.{lt-ltb, le-ltb}
 use Rattle.calendar.specs.declared.data.Constants.{Constants}
 use Rattle.calendar.specs.Month.{monthHead}
 use Rattle.calendar.specs.Calendar.{Calendar}
-use Rattle.calendar.specs.ClosedForms.{monthOfQi, firstMonth, qiOfNumber, leapFollows}
-use Rattle.calendar.proofs.Reckoned.{reckoned}
-use Rattle.calendar.proofs.Rising.{monotone}
-use Rattle.calendar.proofs.EveryCalendar.{within-of-qi}
-use Rattle.reckoning.specs.WordBounds.{ConstantsFit, InRegister, YearInRegister}
+use Rattle.calendar.specs.ClosedForms.{dayOfQi, monthOfQi, qiOfNumber, leapFollows}
+use Rattle.calendar.proofs.Reckoned.{reckoned, month-from, month-before}
+use Rattle.calendar.proofs.EveryCalendar.{Within, within-of-qi}
+use Rattle.reckoning.specs.declared.month_spans.MonthSpan.{MonthSpan}
+use Rattle.reckoning.specs.MonthSpans.{monthSpan}
+use Rattle.reckoning.specs.WordBounds.{SpanFits, InRegister, YearInRegister}
 use Rattle.reckoning.specs.ComputedRefusals.{outside}
 use Rattle.reckoning.proofs.RefusalCases.{inside-of}
 use Rattle.reckoning.specs.Requests.{monthAt, noMonth, monthIn}
 use Rattle.reckoning.specs.RefusalNumbers.{MONTH}
+use Rattle.reckoning.proofs.MonthSpanLaws.{span-fits}
 
 module _ (c : Constants) (n number leap : ℕ) where
   pub number-wrong : outside 1 12 number ≡ true → noMonth MONTH ≡ monthIn c n number leap
@@ -48,21 +51,58 @@ module _ (c : Constants) (n number leap : ℕ) where
       let one : 1 ≡ leap = omega (arith, inside-of 0 1 leap f) in
       subst (λ x. noMonth MONTH ≡ monthIn c n number x) one (simp (e, l))
 
--- Months of a year within the register.
-module _ (c : Constants) (n : ℕ) (r : YearInRegister c n) where
-  abbrev K : Calendar
-  K = reckoned c (r .constants-fit .consistent)
+-- Months of a year within the register, and whether a leap month follows one of them.
+module _ {c : Constants} {n : ℕ} (r : YearInRegister c n) (number : ℕ) {m : MonthSpan}
+    (month : m ≡ monthSpan c (monthOfQi c (qiOfNumber n number)))
+  where
+    abbrev K : Calendar
+    K = reckoned c (r .constants-fit .consistent)
 
-  pub ordinary-in-register : (number k : ℕ) → k ≡ monthOfQi c (qiOfNumber n number)
-      → ConstantsFit c × (k + 1 < 2 ^ 32) × InRegister c (monthHead c k)
-  ordinary-in-register number k e =
-      let w = within-of-qi K n ((number + 1) % 12) (omega arith) in
-      (r .constants-fit, omega (arith, r .months), r .head k (omega arith) (omega arith))
+    within : Within K n (monthOfQi c (qiOfNumber n number))
+    within = within-of-qi K n ((number + 1) % 12) (omega arith)
 
-  pub leap-in-register : (number k next : ℕ) → k ≡ monthOfQi c (qiOfNumber n number) → next ≡ monthOfQi c (qiOfNumber n number + 1)
-      → k + 1 < next
-      → ConstantsFit c × (k + 1 + 1 < 2 ^ 32) × InRegister c (monthHead c (k + 1))
-  leap-in-register number k next e f l =
-      let w = within-of-qi K n ((number + 1) % 12) (omega arith) in
-      let b : monthOfQi c (qiOfNumber n number + 1) ≤ firstMonth c (n + 1) = monotone (K .monthOfQi) (K .qi-rises) (omega arith) in
-      (r .constants-fit, omega (arith, r .months), r .head (k + 1) (omega arith) (omega arith))
+    pub ordinary-fits : SpanFits c m
+    ordinary-fits = span-fits (monthOfQi c (qiOfNumber n number)) (r .constants-fit) month (omega (arith, within, r .months))
+
+    pub ordinary-in-register : InRegister c (m .head)
+    ordinary-in-register =
+        subst (λ x. InRegister c (x .head)) (sym month)
+        (r .head (monthOfQi c (qiOfNumber n number)) (within .0) (omega (arith, within)))
+
+    module _ {next : MonthSpan} (after : next ≡ monthSpan c (m .month + 1)) where
+      -- the month after it, and the day of the middle qi after its own
+      next-is : next ≡ monthSpan c (monthOfQi c (qiOfNumber n number) + 1)
+      next-is = after ∙ ap (λ x. monthSpan c (x .month + 1)) month
+
+      end-is : next .next ≡ monthHead c (monthOfQi c (qiOfNumber n number) + 1 + 1)
+      end-is = ap (λ x. x .next) next-is
+
+      pub next-fits : SpanFits c next
+      next-fits =
+          span-fits (monthOfQi c (qiOfNumber n number) + 1) (r .constants-fit) next-is (omega (arith, within, r .months))
+
+      pub next-in-register : InRegister c (next .head)
+      next-in-register =
+          subst (λ x. InRegister c (x .head)) (sym next-is)
+          (r .head (monthOfQi c (qiOfNumber n number) + 1) (omega (arith, within)) (omega (arith, within)))
+
+      module _ {day : ℕ} (qi : day ≡ dayOfQi c (qiOfNumber n number + 1)) where
+        pub none-follows : day < next .next → leapFollows c n number ≡ false
+        none-follows h =
+            le-ltb (monthOfQi c (qiOfNumber n number) + 1) (monthOfQi c (qiOfNumber n number + 1))
+            (omega (
+              arith,
+              month-before c (r .constants-fit .consistent) (monthOfQi c (qiOfNumber n number) + 1 + 1)
+                  (dayOfQi c (qiOfNumber n number + 1))
+                  (omega (arith, end-is)),
+            ))
+
+        pub one-follows : next .next ≤ day → leapFollows c n number ≡ true
+        one-follows h =
+            lt-ltb (monthOfQi c (qiOfNumber n number) + 1) (monthOfQi c (qiOfNumber n number + 1))
+            (omega (
+              arith,
+              month-from c (r .constants-fit .consistent) (monthOfQi c (qiOfNumber n number) + 1 + 1)
+                  (dayOfQi c (qiOfNumber n number + 1))
+                  (omega (arith, end-is)),
+            ))

@@ -1,5 +1,6 @@
 -- What the laws say of a year within the register.
 use Prim.Native.Nat.{ℕ, _+_, _-_, _^_, _≤_, _<_}
+use mathlib.Core.Path.{_≡_, subst, sym}
 use native.Mathlib.Omega.{arith}
 use Rattle.calendar.specs.declared.data.Constants.{Constants}
 use Rattle.calendar.specs.Systems.{registerDay}
@@ -10,7 +11,10 @@ use Rattle.calendar.proofs.Reckoned.{reckoned}
 use Rattle.calendar.proofs.EveryCalendar.{count-least, count-most, head-monotone}
 use Rattle.calendar.proofs.Spans.{span}
 use Rattle.calendar.proofs.Laws.{year-length-most}
-use Rattle.reckoning.specs.WordBounds.{InRegister, YearInRegister, MonthsInRegister}
+use Rattle.reckoning.specs.declared.month_spans.MonthSpan.{MonthSpan}
+use Rattle.reckoning.specs.MonthSpans.{monthSpan}
+use Rattle.reckoning.specs.WordBounds.{InRegister, SpanFits, YearInRegister, MonthsInRegister}
+use Rattle.reckoning.proofs.MonthSpanLaws.{span-fits}
 
 module _ (c : Constants) (n : ℕ) (r : YearInRegister c n) where
   abbrev ok : Consistent c
@@ -51,3 +55,11 @@ module _ (c : Constants) (n : ℕ) (r : YearInRegister c n) where
 
   pub register-length-most : registerDay c (headOfYear c (n + 1)) - registerDay c (headOfYear c n) ≤ 384
   register-length-most = omega (arith, length-most, first-head, next-head)
+
+-- The months of a list, each as the code carries it.
+module _ {c : Constants} {first count : ℕ} (r : MonthsInRegister c first count) where
+  pub month-fits : (i : ℕ) → i ≤ count → {m : MonthSpan} → m ≡ monthSpan c (first + i) → SpanFits c m
+  month-fits i h e = span-fits (first + i) (r .constants-fit) e (omega (arith, r .first-small, r .count-most))
+
+  pub head-in-register : (i : ℕ) → i ≤ count → {m : MonthSpan} → m ≡ monthSpan c (first + i) → InRegister c (m .head)
+  head-in-register i h e = subst (λ x. InRegister c (x .head)) (sym e) (r .head i h)

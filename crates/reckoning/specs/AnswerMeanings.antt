@@ -21,8 +21,8 @@ pub record IsSolstice (c : Constants) (n : ℕ) (v : Solstice) : Type 0 where
 -- Qi i of year n: its day, parts and small units together are its moment, to the last small unit.
 pub record IsQi (c : Constants) (n i : ℕ) (v : Qi) : Type 0 where
   pub accepted : v .refusal ≡ 0
-  pub moment : ((v .day .0 + c .anchor) * c .day + v .parts) * c .units + v .units ≡ qi c n i
-  pub parts-below : v .parts < c .day
+  pub moment : ((v .day .0 + c .anchor) * c .solar + v .parts) * c .units + v .units ≡ qi c n i
+  pub parts-below : v .parts < c .solar
   pub units-below : v .units < c .units
 
 -- The names of the days of year n, by the name of count day 0, and 255 past the year's end.

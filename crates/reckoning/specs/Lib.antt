@@ -10,6 +10,8 @@ pub mod WordedRefusals
 pub mod ComputedRefusals
 -- What a request by system and year stands on.
 pub mod Asked
+-- Months as the code carries them.
+pub mod MonthSpans
 -- What each request answers.
 pub mod Requests
 -- What the value of a year's months holds, in the paper's words.

@@ -1,21 +1,24 @@
 -- Bounds of machine words, under which the code's numbers fit; every year in scope keeps them (see `year-in-register`).
 use Prim.Native.Nat.{ℕ, _+_, _*_, _^_, _≤_, _<_}
+use mathlib.Core.Path.{_≡_}
 use Rattle.calendar.specs.declared.data.Constants.{Constants}
 use Rattle.calendar.specs.Qi.{solstice, solsticeDay, qi, dayOf}
 use Rattle.calendar.specs.Month.{monthHead}
 use Rattle.calendar.specs.Consistent.{Consistent}
 use Rattle.calendar.specs.ClosedForms.{firstMonth}
+use Rattle.reckoning.specs.declared.month_spans.MonthSpan.{MonthSpan}
+use Rattle.reckoning.specs.MonthSpans.{monthSpan}
 
 -- Products of the constants with counts of months, days, years and middle qi.
 pub record ConstantsFit (c : Constants) : Type 0 where
   pub consistent : Consistent c
   pub month-some : 0 < c .month
   pub year-some : 0 < c .year
-  pub day-small : c .day < 2 ^ 32
+  pub solar-small : c .solar < 2 ^ 32
   pub units-small : c .units < 2 ^ 32
-  pub days : 2 ^ 36 * c .day < 2 ^ 63
+  pub lunar-days : 2 ^ 38 * c .lunar < 2 ^ 63
+  pub solar-days : 2 ^ 38 * (12 * c .solar) < 2 ^ 63
   pub months : 2 ^ 32 * c .month < 2 ^ 63
-  pub twelve-months : 2 ^ 32 * (12 * c .month) < 2 ^ 63
   pub years : 2 ^ 32 * c .year < 2 ^ 63
   pub year-units : c .year * c .units < 2 ^ 62
   pub elapsed-small : c .elapsed < 2 ^ 31
@@ -25,6 +28,12 @@ pub record ConstantsFit (c : Constants) : Type 0 where
 pub record InRegister (c : Constants) (d : ℕ) : Type 0 where
   pub from : c .anchor ≤ d
   pub before : d < c .anchor + 2 ^ 31
+
+-- A month as the code carries it, with room for the two after it.
+pub record SpanFits (c : Constants) (m : MonthSpan) : Type 0 where
+  pub constants-fit : ConstantsFit c
+  pub is : m ≡ monthSpan c (m .month)
+  pub small : m .month + 2 < 2 ^ 32
 
 -- Year n lies within the register.
 pub record YearInRegister (c : Constants) (n : ℕ) : Type 0 where

@@ -2,12 +2,9 @@
 ghost use mathlib.Core.Path.{_≡_};
 ghost use Rattle.reckoning.specs.Requests.{noDate, dateIn};
 ghost use Rattle.reckoning.specs.WordBounds.{ConstantsFit};
-use crate::closed_forms::leap_mark_by_qi;
-use crate::closed_forms::month_head;
-use crate::closed_forms::month_of_day;
 use crate::closed_forms::number_of_qi;
-use crate::closed_forms::qi_of_month;
 use crate::data::Date;
+use crate::month_spans;
 use crate::refusal_numbers::DAY;
 use calendar::data::Constants;
 use calendar::data::RegisterDay;
@@ -30,20 +27,21 @@ pub(crate) fn of_day(c: Constants, day: RegisterDay) -> Date
     ensures { λ r. ⌜ r ≡ dateIn c (day .0) ⌝ }
 {
     let d = day.0 as u64 + c.anchor;
-    let k = month_of_day(c, d);
-    let g = qi_of_month(c, k);
-    let year = g / 12 + c.common;
+    let m = month_spans::of_day(c, d);
+    let last = month_spans::last_qi(c, m);
+    let year = last.qi / 12 + c.common;
     if year <= c.elapsed {
         return none(DAY);
     }
     if c.elapsed + 3000 < year {
         return none(DAY);
     }
+    let place = (d - m.head + 1) as u8;
     Date {
         refusal: 0,
         year: (year - c.elapsed) as u16,
-        month: number_of_qi(g),
-        leap: leap_mark_by_qi(c, k, g),
-        day: (d - month_head(c, k) + 1) as u8,
+        month: number_of_qi(last.qi),
+        leap: last.leap,
+        day: place,
     }
 }

@@ -21,6 +21,7 @@ mod asked;
 mod closed_forms;
 pub mod data;
 mod dates;
+mod month_spans;
 mod months;
 mod names;
 pub mod refusal;

@@ -1,43 +1,45 @@
 // The months of one year: all of them, and one of them by number and leap mark.
 ghost use mathlib.Core.Path.{_≡_};
-ghost use Prim.Native.Nat.{_+_, _<_, _^_};
 ghost use Rattle.calendar.specs.Systems.{yearsElapsed};
-ghost use Rattle.calendar.specs.Month.{monthHead};
+ghost use Rattle.reckoning.specs.MonthSpans.{monthSpan};
 ghost use Rattle.reckoning.specs.Requests.{monthsFrom, yearIn, monthAt, noMonth, monthIn};
-ghost use Rattle.reckoning.specs.WordBounds.{ConstantsFit, InRegister, MonthsInRegister, YearInRegister};
-use crate::closed_forms::first_month;
-use crate::closed_forms::leap_mark;
-use crate::closed_forms::month_head;
-use crate::closed_forms::month_number;
-use crate::closed_forms::month_of_qi;
+ghost use Rattle.reckoning.specs.WordBounds.{InRegister, SpanFits, MonthsInRegister, YearInRegister};
+use crate::closed_forms::day_of_qi;
+use crate::closed_forms::number_of_qi;
 use crate::closed_forms::register_day;
-use crate::closed_forms::register_head;
 use crate::closed_forms::years_elapsed;
 use crate::data::Month;
 use crate::data::Year;
+use crate::month_spans::MonthSpan;
+use crate::month_spans::after;
+use crate::month_spans::first_of_year;
+use crate::month_spans::last_qi;
+use crate::month_spans::of_qi;
 use crate::refusal::outside;
 use crate::refusal_numbers::MONTH;
 use calendar::data::Constants;
 use calendar::data::RegisterDay;
 
 // `count` months from month `first` on: in order each head, number and leap mark, then the head after them.
-fn list(c: Constants, first: u64, count: usize) -> Year
-    requires { ⌜ MonthsInRegister c first count ⌝ }
-    ensures { λ r. ⌜ r ≡ monthsFrom c first count ⌝ }
+fn list(c: Constants, first: MonthSpan, count: usize) -> Year
+    requires { ⌜ (first ≡ monthSpan c (first .month)) × MonthsInRegister c (first .month) count ⌝ }
+    ensures { λ r. ⌜ r ≡ monthsFrom c (first .month) count ⌝ }
 {
     let mut heads = [RegisterDay(0); 14];
     let mut numbers = [0u8; 14];
     let mut leaps = [0u8; 14];
+    let mut m = first;
     let mut i = 0;
     while i < count {
-        let k = first + i as u64;
-        let head = register_head(c, k);
+        let head = register_day(c, m.head);
+        let last = last_qi(c, m);
         heads[i] = head;
-        numbers[i] = month_number(c, k);
-        leaps[i] = leap_mark(c, k);
+        numbers[i] = number_of_qi(last.qi);
+        leaps[i] = last.leap;
+        m = after(c, m);
         i += 1;
     }
-    let next = register_head(c, first + count as u64);
+    let next = register_day(c, m.head);
     heads[count] = next;
     Year {
         refusal: 0,
@@ -53,22 +55,21 @@ pub(crate) fn of_year(c: Constants, n: u64) -> Year
     requires { ⌜ YearInRegister c n ⌝ }
     ensures { λ r. ⌜ r ≡ yearIn c n ⌝ }
 {
-    let first = first_month(c, n);
-    let next = first_month(c, n + 1);
-    list(c, first, (next - first) as usize)
+    let first = first_of_year(c, n);
+    let next = first_of_year(c, n + 1);
+    list(c, first, (next.month - first.month) as usize)
 }
 
-// Month k.
-fn at(c: Constants, k: u64) -> Month
-    requires { ⌜ ConstantsFit c × (k + 1 < 2 ^ 32) × InRegister c (monthHead c k) ⌝ }
-    ensures { λ r. ⌜ r ≡ monthAt c k ⌝ }
+// Month m.
+fn at(c: Constants, m: MonthSpan) -> Month
+    requires { ⌜ SpanFits c m × InRegister c (m .head) ⌝ }
+    ensures { λ r. ⌜ r ≡ monthAt c (m .month) ⌝ }
 {
-    let head = month_head(c, k);
-    let next = month_head(c, k + 1);
+    let length = (m.next - m.head) as u8;
     Month {
         refusal: 0,
-        head: register_day(c, head),
-        length: (next - head) as u8,
+        head: register_day(c, m.head),
+        length: length,
     }
 }
 
@@ -94,14 +95,15 @@ fn month_of_year(c: Constants, n: u64, number: u32, leap: u32) -> Month
         return none(MONTH);
     }
     let g = 12 * n + (number as u64 + 1) % 12;
-    let k = month_of_qi(c, g);
+    let m = of_qi(c, g);
     if leap == 0 {
-        return at(c, k);
+        return at(c, m);
     }
-    if k + 1 < month_of_qi(c, g + 1) {
-        return at(c, k + 1);
+    let next = after(c, m);
+    if day_of_qi(c, g + 1) < next.next {
+        return none(MONTH);
     }
-    none(MONTH)
+    at(c, next)
 }
 
 pub(crate) fn month_of_common_year(c: Constants, year: u32, number: u32, leap: u32) -> Month

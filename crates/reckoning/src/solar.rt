@@ -24,8 +24,8 @@ pub(crate) fn solstice(c: Constants, n: u64) -> Solstice
     let t = n * c.year;
     Solstice {
         refusal: 0,
-        day: register_day(c, t / c.day),
-        remainder: rest(t, c.day),
+        day: register_day(c, t / c.solar),
+        remainder: rest(t, c.solar),
     }
 }
 
@@ -38,8 +38,8 @@ pub(crate) fn qi(c: Constants, n: u64, i: u64) -> Qi
     let parts = moment / c.units;
     Qi {
         refusal: 0,
-        day: register_day(c, parts / c.day),
-        parts: rest(parts, c.day),
+        day: register_day(c, parts / c.solar),
+        parts: rest(parts, c.solar),
         units: rest(moment, c.units),
     }
 }

@@ -1,94 +1,107 @@
-use mathlib.Core.Path.{ap, _∙_}
-use Prim.Native.Nat.{_-_, _≤_}
-use mathlib.Core.Path.{_≡_}
+use borrow.Author.Needs.{needs}
+use mathlib.Core.Path.{_≡_, ap, _∙_}
+use Prim.Native.Nat.{_+_, _-_, _%_, _≤_}
 use native.Mathlib.Omega.{arith}
-use Rattle.reckoning.specs.Requests.{headAt, numberAt, leapAt, noHeads, noMarks, monthsFrom}
+use Rattle.calendar.specs.Systems.{registerDay}
+use Rattle.calendar.specs.Month.{numberOf}
+use Rattle.reckoning.specs.MonthSpans.{monthSpan, lastQi}
+use Rattle.reckoning.specs.Requests.{asRegisterDay, headAt, numberAt, leapAt, noHeads, noMarks, monthsFrom}
 use Rattle.reckoning.specs.Filled.{filled}
 use Rattle.reckoning.proofs.FilledLaws.{filled-none, filled-more}
+use Rattle.reckoning.proofs.RegisterLaws.{head-in-register, month-fits}
 use Rattle.reckoning.proofs.months.list.Statement.{statement}
 use Rattle.reckoning.proofs.months.list.Tie as tie
 
 abbrev Inv-loop : tie.InvT-loop
-Inv-loop c first count heads₀ numbers₀ leaps₀ i₀ heads numbers leaps i =
+Inv-loop c count heads₀ numbers₀ leaps₀ m₀ i₀ heads numbers leaps m i =
     (i ≤ count)
-    × (heads ≡ filled (headAt c first) noHeads i)
-    × (numbers ≡ filled (numberAt c first) noMarks i)
-    × (leaps ≡ filled (leapAt c first) noMarks i)
+    × (m ≡ monthSpan c (m₀ .month + i))
+    × (heads ≡ filled (headAt c (m₀ .month)) noHeads i)
+    × (numbers ≡ filled (numberAt c (m₀ .month)) noMarks i)
+    × (leaps ≡ filled (leapAt c (m₀ .month)) noMarks i)
 
 abbrev μ-loop : tie.MeasureT-loop
-μ-loop c first count heads₀ numbers₀ leaps₀ i₀ heads numbers leaps i = count - i
+μ-loop c count heads₀ numbers₀ leaps₀ m₀ i₀ heads numbers leaps m i = count - i
 
 loop-holds : tie.Need-loop-holds Inv-loop μ-loop
-loop-holds c = (omega arith, filled-none _ _, filled-none _ _, filled-none _ _)
+loop-holds c =
+    let start : c .args .first .month ≡ c .args .first .month + 0 = omega arith in
+    (omega arith, c .pre .0 ∙ ap (monthSpan (c .args .c)) start, filled-none _ _, filled-none _ _, filled-none _ _)
 
-add-k : tie.Need-add-k Inv-loop μ-loop
-add-k c = omega arith
+register-day-requires : tie.Need-register-day-requires Inv-loop μ-loop
+register-day-requires c κs = head-in-register (c .before .before .pre .1) _ (omega arith) (c .before .loop .inv .1)
 
-register-head-requires : tie.Need-register-head-requires Inv-loop μ-loop
-register-head-requires c κs =
-    let pre = c .before .before .pre in
-    (pre .constants-fit, omega arith, pre .head (c .before .loop .i) (omega arith))
+last-qi-requires : tie.Need-last-qi-requires Inv-loop μ-loop
+last-qi-requires c κs = month-fits (c .before .before .before .pre .1) _ (omega arith) (c .before .before .loop .inv .1)
 
 mul-heads : tie.Need-mul-heads Inv-loop μ-loop
-mul-heads c = omega arith
+mul-heads c = search needs
 
 array-set-from-heads : tie.Need-array-set-from-heads Inv-loop μ-loop
-array-set-from-heads c = omega arith
+array-set-from-heads c = search needs
 
-month-number-requires : tie.Need-month-number-requires Inv-loop μ-loop
-month-number-requires c κs = (c .before .before .before .pre .constants-fit, omega arith)
+number-of-qi-requires : tie.Need-number-of-qi-requires Inv-loop μ-loop
+number-of-qi-requires c κs = search needs
 
 array-write-numbers : tie.Need-array-write-numbers Inv-loop μ-loop
-array-write-numbers c = omega arith
-
-leap-mark-requires : tie.Need-leap-mark-requires Inv-loop μ-loop
-leap-mark-requires c κs = (c .before .before .before .before .pre .constants-fit, omega arith)
+array-write-numbers c = search needs
 
 array-write-leaps : tie.Need-array-write-leaps Inv-loop μ-loop
-array-write-leaps c = omega arith
+array-write-leaps c = search needs
+
+after-requires : tie.Need-after-requires Inv-loop μ-loop
+after-requires c κs =
+    let loop = c .before .before .before .before in
+    month-fits (loop .before .pre .1) _ (omega arith) (loop .loop .inv .1)
 
 add-i : tie.Need-add-i Inv-loop μ-loop
-add-i c = omega arith
+add-i c = search needs
 
 loop-less : tie.Need-loop-less Inv-loop μ-loop
-loop-less c = omega arith
+loop-less c = search needs
 
 loop-again : tie.Need-loop-again Inv-loop μ-loop
 loop-again c =
-    let inv = c .before .before .before .before .loop .inv in (
+    let turn = c .before .before .before .before .before in
+    let constants = turn .before .args .c in
+    let inv = turn .loop .inv in
+    let here = ap (λ x. x .month) (inv .1) in
+    let head = ap (λ x. asRegisterDay (registerDay constants (x .head))) (inv .1) in
+    let last = c .before .before .last-qi .ensures ∙ ap (lastQi constants) here in
+    let next : turn .loop .m .month + 1 ≡ turn .before .args .first .month + (turn .loop .i + 1) = omega arith in (
       omega arith,
-      filled-more _ _ _ _ _ (inv .1) (c .before .before .register-head .ensures),
-      filled-more _ _ _ _ _ (inv .2) (c .before .month-number .ensures),
-      filled-more _ _ _ _ _ (inv .3) (c .leap-mark .ensures),
+      c .after .ensures ∙ ap (monthSpan constants) next,
+      filled-more _ _ _ _ _ (inv .2) (c .before .before .before .register-day .ensures ∙ head),
+      filled-more _ _ _ _ _ (inv .3) (c .before .number-of-qi .ensures ∙ ap (λ x. numberOf (x .qi % 12)) last),
+      filled-more _ _ _ _ _ (inv .4) (ap (λ x. x .leap) last),
     )
 
-add-register-head : tie.Need-add-register-head Inv-loop μ-loop
-add-register-head c = omega arith
-
-register-head-requires-2 : tie.Need-register-head-requires-2 Inv-loop μ-loop
-register-head-requires-2 c κs =
-    let start = c .before .before in
-    (start .pre .constants-fit, omega arith, start .pre .head (start .args .count) (omega arith))
+register-day-requires-2 : tie.Need-register-day-requires-2 Inv-loop μ-loop
+register-day-requires-2 c κs = head-in-register (c .before .before .pre .1) _ (omega arith) (c .before .loop .inv .1)
 
 mul-heads-2 : tie.Need-mul-heads-2 Inv-loop μ-loop
-mul-heads-2 c = omega arith
+mul-heads-2 c = search needs
 
 array-set-from-heads-2 : tie.Need-array-set-from-heads-2 Inv-loop μ-loop
-array-set-from-heads-2 c = omega arith
+array-set-from-heads-2 c = search needs
 
-cast-t27 : tie.Need-cast-t27 Inv-loop μ-loop
-cast-t27 c = omega arith
+cast-t25 : tie.Need-cast-t25 Inv-loop μ-loop
+cast-t25 c = search needs
 
 returns : tie.Need-returns Inv-loop μ-loop
 unfolding monthsFrom
 returns c =
-    let count = c .before .before .before .args .count in
+    let start = c .before .before .before in
+    let count = start .args .count in
     let loop = c .before .before .loop in
     let inv = loop .inv in
     let e : loop .i ≡ count = omega arith in
-    let heads = filled-more _ _ _ _ _ (inv .1 ∙ ap (filled _ noHeads) e) (c .register-head2 .ensures) in
-    let numbers = inv .2 ∙ ap (filled _ noMarks) e in
-    let leaps = inv .3 ∙ ap (filled _ noMarks) e in
+    let constants = start .args .c in
+    let last = inv .1 ∙ ap (λ i. monthSpan constants (start .args .first .month + i)) e in
+    let head = ap (λ x. asRegisterDay (registerDay constants (x .head))) last in
+    let heads = filled-more _ _ _ _ _ (inv .2 ∙ ap (filled _ noHeads) e) (c .register-day2 .ensures ∙ head) in
+    let numbers = inv .3 ∙ ap (filled _ noMarks) e in
+    let leaps = inv .4 ∙ ap (filled _ noMarks) e in
     λ j. record { refusal = 0; count = count; heads = heads j; numbers = numbers j; leaps = leaps j }
 
 pub list-spec : {M : Type 1} → statement M
@@ -98,20 +111,19 @@ list-spec =
     Inv-loop
     μ-loop
     loop-holds
-    add-k
-    register-head-requires
+    register-day-requires
+    last-qi-requires
     mul-heads
     array-set-from-heads
-    month-number-requires
+    number-of-qi-requires
     array-write-numbers
-    leap-mark-requires
     array-write-leaps
+    after-requires
     add-i
     loop-less
     loop-again
-    add-register-head
-    register-head-requires-2
+    register-day-requires-2
     mul-heads-2
     array-set-from-heads-2
-    cast-t27
+    cast-t25
     returns)

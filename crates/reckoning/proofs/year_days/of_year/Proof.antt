@@ -1,19 +1,19 @@
 use mathlib.Core.Path.{ap, ap₂, subst₂, sym}
 use Prim.Native.Nat.{_-_, _≤_}
 use native.Mathlib.Omega.{arith}
-use Rattle.reckoning.proofs.RegisterLaws.{first-small, first-head, next-head, register-rises, register-length-most}
+use Rattle.reckoning.proofs.RegisterLaws.{first-head, next-head, register-rises, register-length-most}
 use borrow.Author.Needs.{needs}
 use Rattle.reckoning.proofs.year_days.of_year.Statement.{statement}
 use Rattle.reckoning.proofs.year_days.of_year.Tie as tie
 
 year-head-requires : tie.Need-year-head-requires
-year-head-requires c κs = (c .pre .constants-fit, omega arith, omega (arith, first-small _ _ (c .pre)), first-head _ _ (c .pre))
+year-head-requires c κs = (c .pre .constants-fit, omega arith, first-head _ _ (c .pre))
 
 add-year-head : tie.Need-add-year-head
 add-year-head c = search needs
 
 year-head-requires-2 : tie.Need-year-head-requires-2
-year-head-requires-2 c κs = (c .before .pre .constants-fit, omega arith, omega arith, next-head _ _ (c .before .pre))
+year-head-requires-2 c κs = (c .before .pre .constants-fit, omega arith, next-head _ _ (c .before .pre))
 
 sub-t6 : tie.Need-sub-t6
 sub-t6 c =
