@@ -4,7 +4,7 @@
 use crate::citation::store;
 use crate::lines::lines;
 use crate::reckoning::{name_of, Month, Tables, System, Table, Year, FIRST_YEAR, LAST_YEAR};
-use crate::streams::citation_of;
+use crate::streams::{citation_of, leap_marks};
 
 pub struct Checks {
     pub passed: u64,
@@ -36,6 +36,7 @@ pub fn run(tables: &Tables) -> Checks {
         carried_walk(table, &mut checks);
         every_day(tables, table, &mut checks);
         every_stored_form(tables, table, &mut checks);
+        every_leap_mark(tables, table, &mut checks);
     }
     checks
 }
@@ -434,4 +435,13 @@ fn every_stored_form(tables: &Tables, table: &Table, checks: &mut Checks) {
     }
     checks.that(accepted == table.places.len(), || format!("{} kind 1 records accepted", accepted));
     checks.that(named.iter().all(|n| *n == 1), || "a day has not just one record".to_string());
+}
+
+/// Either leap mark on every month number of every year: store follows the
+/// list of the year's months.
+fn every_leap_mark(tables: &Tables, table: &Table, checks: &mut Checks) {
+    for (record, expected) in leap_marks(table) {
+        let result = store(tables, &record, 10);
+        checks.that(result == expected, || format!("{:?}: {:?}", record, result));
+    }
 }
