@@ -2,7 +2,7 @@
 """Stores the day that a date cites, by way of the shared library.
 
     store.py SYSTEM YEAR MONTH LEAP DAY
-    store.py 1 1094 5 1 1
+    store.py 1 1094 5 0 1
 
 The loader has to find libchiselbrow.so.1: where it is not installed,
 LD_LIBRARY_PATH says where it is. Printed is what store prints; so is the exit

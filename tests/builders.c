@@ -67,10 +67,10 @@ static const struct {
     int fields;
     struct field field[FIELDS];
 } case_9[KINDS] = {
-    {10, {0x0A, 0x00, 0x01, 0x00, 0x01, 0x46, 0x04, 0x05, 0x01, 0x01},
-     5, {{1, 8, 4}, {1094, 16, 5}, {5, 8, 6}, {1, 8, 6}, {1, 8, 7}}},
-    {10, {0x0A, 0x00, 0x02, 0x00, 0x01, 0x46, 0x04, 0x05, 0x01, 0x25},
-     5, {{1, 8, 4}, {1094, 16, 5}, {5, 8, 6}, {1, 8, 6}, {37, 8, 7}}},
+    {10, {0x0A, 0x00, 0x01, 0x00, 0x01, 0x46, 0x04, 0x05, 0x00, 0x01},
+     5, {{1, 8, 4}, {1094, 16, 5}, {5, 8, 6}, {0, 8, 6}, {1, 8, 7}}},
+    {10, {0x0A, 0x00, 0x02, 0x00, 0x01, 0x46, 0x04, 0x05, 0x00, 0x25},
+     5, {{1, 8, 4}, {1094, 16, 5}, {5, 8, 6}, {0, 8, 6}, {37, 8, 7}}},
     {9, {0x09, 0x00, 0x03, 0x00, 0x01, 0x46, 0x04, 0xD0, 0x00},
      3, {{1, 8, 4}, {1094, 16, 5}, {208, 16, 7}}},
     {9, {0x09, 0x00, 0x04, 0x00, 0x01, 0x68, 0x5C, 0x20, 0x00},
@@ -218,12 +218,15 @@ static void check_reader(void)
         {"leap mark 2", 8, 2, 0},      {"day 0", 9, 0, 0},            {"day 30", 9, 30, 1},
         {"day 31", 9, 31, 0},
     };
-    static const uint8_t year_0[] = {0x0A, 0, 1, 0, 1, 0, 0, 5, 1, 1};
-    static const uint8_t eleven[] = {0x0A, 0, 1, 0, 1, 0x46, 0x04, 5, 1, 1, 0};
+    static const uint8_t year_0[] = {0x0A, 0, 1, 0, 1, 0, 0, 5, 0, 1};
+    static const uint8_t eleven[] = {0x0A, 0, 1, 0, 1, 0x46, 0x04, 5, 0, 1, 0};
+    static const uint8_t leap_4[] = {0x0A, 0, 1, 0, 1, 0x46, 0x04, 4, 1, 1};
     struct chiselbrow_date date;
 
     require(chiselbrow_read_date(case_9[0].bytes, 10, &date) && date.system == 1 && date.year == 1094 &&
-            date.month == 5 && date.leap == 1 && date.day == 1, "case 9 is read as another date");
+            date.month == 5 && date.leap == 0 && date.day == 1, "case 9 is read as another date");
+    require(chiselbrow_read_date(leap_4, sizeof leap_4, &date) && date.month == 4 && date.leap == 1,
+            "a leap month is read as another");
     require_read("a citation by name", case_9[1].bytes, case_9[1].size, 0);
     require_read("a citation by ordinal", case_9[2].bytes, case_9[2].size, 0);
     require_read("a citation by day", case_9[3].bytes, case_9[3].size, 0);

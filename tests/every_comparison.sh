@@ -15,68 +15,72 @@ written() {
 
 # Leap marks that differ, heads that differ, a month that one system lacks. A number that differs alone is in no year from
 # 1 to 3000, so that no test here can tell whether it is looked at: the proof does (must-fail number_not_compared).
-written 1 2 1094 << 'END'
-compare G J 1094 2
-place 7 5 2120778 4* 2120778 0
-place 8 5* 2120808 5 2120808 0
+written 1 2 1162 << 'END'
+compare G J 1162 2
+place 5 3 2145554 2* 2145554 0
+place 6 3* 2145584 3 2145584 0
 END
 written 1 2 1105 << 'END'
 compare G J 1105 1
 place 9 6 2124853 6 2124854 1
 END
-written 1 2 1832 << 'END'
-compare G J 1832 1
-place 13 - - 10* 2390511 first
+written 1 2 2022 << 'END'
+compare G J 2022 1
+place 13 - - 10* 2459908 first
 END
 
 # The same the other way round.
-written 2 1 1094 << 'END'
-compare J G 1094 2
-place 7 4* 2120778 5 2120778 0
-place 8 5 2120808 5* 2120808 0
+written 2 1 1162 << 'END'
+compare J G 1162 2
+place 5 2* 2145554 3 2145554 0
+place 6 3 2145584 3* 2145584 0
 END
 written 2 1 1105 << 'END'
 compare J G 1105 1
 place 9 6 2124854 6 2124853 -1
 END
-written 2 1 1832 << 'END'
-compare J G 1832 1
-place 13 10* 2390511 - - second
+written 2 1 2022 << 'END'
+compare J G 2022 1
+place 13 10* 2459908 - - second
 END
 
 # Thirteen places: Jiyuan begins this year a month later.
-written 1 2 1833 << 'END'
-compare G J 1833 13
-place 1 11 2390511 11 2390540 29
-place 2 11* 2390540 12 2390570 30
-place 3 12 2390570 1 2390599 29
-place 4 1 2390599 2 2390629 30
-place 5 2 2390629 3 2390658 29
-place 6 3 2390658 4 2390688 30
-place 7 4 2390688 5 2390717 29
-place 8 5 2390717 6 2390747 30
-place 9 6 2390747 7 2390776 29
-place 10 7 2390776 8 2390806 30
-place 11 8 2390806 9 2390836 30
-place 12 9 2390836 10 2390865 29
-place 13 10 2390865 - - second
+written 1 2 2023 << 'END'
+compare G J 2023 13
+place 1 11 2459908 11 2459937 29
+place 2 11* 2459937 12 2459967 30
+place 3 12 2459967 1 2459996 29
+place 4 1 2459996 2 2460026 30
+place 5 2 2460026 3 2460055 29
+place 6 3 2460055 4 2460085 30
+place 7 4 2460085 5 2460114 29
+place 8 5 2460114 6 2460144 30
+place 9 6 2460144 7 2460173 29
+place 10 7 2460173 8 2460203 30
+place 11 8 2460203 9 2460232 29
+place 12 9 2460232 10 2460262 30
+place 13 10 2460262 - - second
 END
-written 2 1 1833 << 'END'
-compare J G 1833 13
-place 1 11 2390540 11 2390511 -29
-place 2 12 2390570 11* 2390540 -30
-place 3 1 2390599 12 2390570 -29
-place 4 2 2390629 1 2390599 -30
-place 5 3 2390658 2 2390629 -29
-place 6 4 2390688 3 2390658 -30
-place 7 5 2390717 4 2390688 -29
-place 8 6 2390747 5 2390717 -30
-place 9 7 2390776 6 2390747 -29
-place 10 8 2390806 7 2390776 -30
-place 11 9 2390836 8 2390806 -30
-place 12 10 2390865 9 2390836 -29
-place 13 - - 10 2390865 first
+written 2 1 2023 << 'END'
+compare J G 2023 13
+place 1 11 2459937 11 2459908 -29
+place 2 12 2459967 11* 2459937 -30
+place 3 1 2459996 12 2459967 -29
+place 4 2 2460026 1 2459996 -30
+place 5 3 2460055 2 2460026 -29
+place 6 4 2460085 3 2460055 -30
+place 7 5 2460114 4 2460085 -29
+place 8 6 2460144 5 2460114 -30
+place 9 7 2460173 6 2460144 -29
+place 10 8 2460203 7 2460173 -30
+place 11 9 2460232 8 2460203 -29
+place 12 10 2460262 9 2460232 -30
+place 13 - - 10 2460262 first
 END
+
+# Both systems have the leap month of the stone, and no place is listed.
+written 1 2 1094 <<< 'compare G J 1094 0'
+written 2 1 1094 <<< 'compare J G 1094 0'
 
 # A system does not differ from itself.
 written 1 1 2999 3001 << 'END'

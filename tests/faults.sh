@@ -150,7 +150,7 @@ plain 0 2
 every_fault write "$ENOSPC"
 
 # Comparisons: 13 places, none, and a refusal.
-command=(build/almanac compare 1 2 2824 3001)
+command=(build/almanac compare 1 2 2881 3001)
 build/independent compare "${command[@]:2}" > "$scratch/right"
 export WRITE_MOST=300
 plain 0 2

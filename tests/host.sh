@@ -14,15 +14,16 @@ expect() {
 }
 
 stored='0 day 2120808
-record 0A 00 01 00 01 46 04 05 01 01'
-expect "$stored" 0A 00 01 00 01 46 04 05 01 01
-expect "$stored" '0A 00 02 00 01 46 04 05 01 25'
+record 0A 00 01 00 01 46 04 05 00 01'
+expect "$stored" 0A 00 01 00 01 46 04 05 00 01
+expect "$stored" '0A 00 02 00 01 46 04 05 00 25'
 expect "$stored" 0900030001 4604d000
 expect "$stored" 090004000168 ' 5c20 00 '
 
 expect '1 refused 1' ''
 expect '1 refused 3' 0A 00 04 00 01 68 5C 20 00
-expect '1 refused 6' 0A 00 01 00 01 46 04 06 01 01
+expect '1 refused 6' 0A 00 01 00 01 46 04 05 01 01
+expect '1 refused 6' 0A 00 02 00 01 46 04 05 01 25
 expect '1 refused 7' 09 00 03 00 01 46 04 81 01
 
 expect '2 '

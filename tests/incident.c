@@ -29,10 +29,9 @@ struct lot {
 };
 
 static const struct lot lots[] = {
-    /* Guantian 1094: leap month 5, day 1, and month 7, day 2. */
-    {CHISELBROW_GUANTIAN, FIRST, 5, 1, {0x0A, 0, 1, 0, 1, 0x46, 0x04, 5, 1, 1}},
+    /* In both systems: month 5, day 1, and month 7, day 2. */
+    {CHISELBROW_GUANTIAN, FIRST, 5, 0, {0x0A, 0, 1, 0, 1, 0x46, 0x04, 5, 0, 1}},
     {CHISELBROW_GUANTIAN, SECOND, 7, 0, {0x0A, 0, 1, 0, 1, 0x46, 0x04, 7, 0, 2}},
-    /* Jiyuan 1094: month 5, day 1, and month 7, day 2. */
     {CHISELBROW_JIYUAN, FIRST, 5, 0, {0x0A, 0, 1, 0, 2, 0x46, 0x04, 5, 0, 1}},
     {CHISELBROW_JIYUAN, SECOND, 7, 0, {0x0A, 0, 1, 0, 2, 0x46, 0x04, 7, 0, 2}},
 };

@@ -38,7 +38,7 @@ says "$scratch/static"
 
 says "$scratch/bin/store"
 came=$(head -c 10 examples/case-9.bin | "$scratch/bin/chiselbrow")
-[ "$came" = 'G 1094 5* 1 2120808 37' ] || fail "the installed program says: $came"
+[ "$came" = 'G 1094 5 1 2120808 37' ] || fail "the installed program says: $came"
 [ -x "$scratch/bin/almanac" ] || fail "no almanac"
 
 man=$scratch/share/man

@@ -6,7 +6,7 @@ cd "$(dirname "$0")/.."
 seed=${SEED:-$(date +%s)}
 name="pipes (seed $seed)"
 . tests/run.bash
-line='G 1094 5* 1 2120808 37'
+line='G 1094 5 1 2120808 37'
 no_record='chiselbrow: standard input: no record at byte'
 
 # Pieces: a stream of so many records, in pieces of 1 to so many bytes, with pauses of so many microseconds. The program

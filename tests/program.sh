@@ -16,10 +16,10 @@ run build/chiselbrow < /dev/null
 told 'no input' 0 /dev/null ''
 
 cat > "$scratch/expected" << 'END'
-G 1094 5* 1 2120808 37
-G 1094 5* 1 2120808 37
-G 1094 5* 1 2120808 37
-G 1094 5* 1 2120808 37
+G 1094 5 1 2120808 37
+G 1094 5 1 2120808 37
+G 1094 5 1 2120808 37
+G 1094 5 1 2120808 37
 refused 1
 END
 run build/chiselbrow < examples/case-9.bin

@@ -11,8 +11,8 @@ store.restype = ctypes.c_uint64
 store.argtypes = [ctypes.POINTER(ctypes.c_uint8), ctypes.c_size_t] * 2
 
 CASE_9 = [
-    "0A 00 01 00 01 46 04 05 01 01",
-    "0A 00 02 00 01 46 04 05 01 25",
+    "0A 00 01 00 01 46 04 05 00 01",
+    "0A 00 02 00 01 46 04 05 00 25",
     "09 00 03 00 01 46 04 D0 00",
     "09 00 04 00 01 68 5C 20 00",
 ]

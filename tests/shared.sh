@@ -27,9 +27,12 @@ example() {
     echo "$status $came"
 }
 expect 'case 9' "0 day 2120808
-record 0A 00 01 00 01 46 04 05 01 01" "$(example 1 1094 5 1 1)"
-expect 'day 30 of a month of 29' '1 refused 7' "$(example 1 1094 5 1 30)"
-expect 'year 70000' '1 refused 5' "$(example 1 70000 5 1 1)"
+record 0A 00 01 00 01 46 04 05 00 01" "$(example 1 1094 5 0 1)"
+expect 'a leap month' "0 day 2120778
+record 0A 00 01 00 01 46 04 04 01 01" "$(example 1 1094 4 1 1)"
+expect 'no such leap month' '1 refused 6' "$(example 1 1094 5 1 1)"
+expect 'day 30 of a month of 29' '1 refused 7' "$(example 1 1094 5 0 30)"
+expect 'year 70000' '1 refused 5' "$(example 1 70000 5 0 1)"
 expect 'month -1' '1 refused 6' "$(example 1 1094 -1 0 1)"
-expect 'no day' '2 ' "$(example 1 1094 5 1)"
+expect 'no day' '2 ' "$(example 1 1094 5 0)"
 echo "shared: $declared is all that the shared library exports, and Python calls it"

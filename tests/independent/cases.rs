@@ -1,10 +1,10 @@
 //! The check of this program itself: the examples and the general facts of
-//! paper 01, with the paper's numbers written out.
+//! papers 01 and 02, with the papers' numbers written out.
 
 use crate::citation::store;
 use crate::lines::lines;
-use crate::reckoning::{name_of, Tables, System, Table, FIRST_YEAR, LAST_YEAR};
-use crate::streams::citation_of;
+use crate::reckoning::{name_of, Month, Tables, System, Table, Year, FIRST_YEAR, LAST_YEAR};
+use crate::streams::{citation_of, leap_marks};
 
 pub struct Checks {
     pub passed: u64,
@@ -28,6 +28,7 @@ impl Checks {
 pub fn run(tables: &Tables) -> Checks {
     let mut checks = Checks { passed: 0, failures: Vec::new() };
     examples(tables, &mut checks);
+    days_with_qi_and_moon(tables, &mut checks);
     for system in 1..=2 {
         let table = tables.table(system).unwrap();
         facts(table, &mut checks);
@@ -35,6 +36,7 @@ pub fn run(tables: &Tables) -> Checks {
         carried_walk(table, &mut checks);
         every_day(tables, table, &mut checks);
         every_stored_form(tables, table, &mut checks);
+        every_leap_mark(tables, table, &mut checks);
     }
     checks
 }
@@ -42,6 +44,11 @@ pub fn run(tables: &Tables) -> Checks {
 /// The refusal of a record stored with room enough, 0 when accepted.
 fn refusal(tables: &Tables, record: &[u8]) -> u8 {
     store(tables, record, 10).err().unwrap_or(0)
+}
+
+fn by_date(tables: &Tables, system: u8, year: u16, month: u8, leap: u8, day: u8) -> u8 {
+    let y = year.to_le_bytes();
+    refusal(tables, &[10, 0, 1, 0, system, y[0], y[1], month, leap, day])
 }
 
 fn by_ordinal(tables: &Tables, system: u8, year: u16, ordinal: u16) -> u8 {
@@ -54,7 +61,11 @@ fn by_name(tables: &Tables, system: u8, year: u16, month: u8, leap: u8, name: u8
     refusal(tables, &[10, 0, 2, 0, system, y[0], y[1], month, leap, name])
 }
 
-/// The paper's examples 1 to 10, and the other places where it gives the
+fn leap_numbers(year: &Year) -> Vec<u8> {
+    year.months.iter().filter(|m| m.leap).map(|m| m.number).collect()
+}
+
+/// The papers' examples 1 to 10, and the other places where paper 01 gives the
 /// number of a day.
 fn examples(tables: &Tables, checks: &mut Checks) {
     let guantian = tables.table(1).unwrap();
@@ -88,10 +99,11 @@ fn examples(tables: &Tables, checks: &mut Checks) {
     checks.same("5, days", y.length(), 384);
     checks.same("5, ordinal 385", by_ordinal(tables, 1, 1094, 385), 7);
 
-    let eighth = &y.months[7];
-    checks.same("6, number", (eighth.number, eighth.leap), (5, true));
+    let (seventh, eighth) = (&y.months[6], &y.months[7]);
+    checks.same("6, number", (eighth.number, eighth.leap), (5, false));
     checks.same("6, head", eighth.head, 2120808);
     checks.same("6, days", eighth.length, 29);
+    checks.same("6, the month before", (seventh.number, seventh.leap), (4, true));
 
     let y = jiyuan.year(1106);
     checks.same("7, day", y.solstice_day, 2125008);
@@ -105,8 +117,8 @@ fn examples(tables: &Tables, checks: &mut Checks) {
     checks.same("8, remainder", jiyuan.system.remainder_of(moon), 4_760);
     checks.same("8, months", y.months.len(), 12);
 
-    let first = [0x0A, 0x00, 0x01, 0x00, 0x01, 0x46, 0x04, 0x05, 0x01, 0x01];
-    let second = [0x0A, 0x00, 0x02, 0x00, 0x01, 0x46, 0x04, 0x05, 0x01, 0x25];
+    let first = [0x0A, 0x00, 0x01, 0x00, 0x01, 0x46, 0x04, 0x05, 0x00, 0x01];
+    let second = [0x0A, 0x00, 0x02, 0x00, 0x01, 0x46, 0x04, 0x05, 0x00, 0x25];
     let third = [0x09, 0x00, 0x03, 0x00, 0x01, 0x46, 0x04, 0xD0, 0x00];
     let fourth = [0x09, 0x00, 0x04, 0x00, 0x01, 0x68, 0x5C, 0x20, 0x00];
     let four: [&[u8]; 4] = [&first, &second, &third, &fourth];
@@ -115,10 +127,12 @@ fn examples(tables: &Tables, checks: &mut Checks) {
         checks.same("9, no room", store(tables, record, 9), Err(8));
     }
 
+    let y = jiyuan.year(1107);
+    checks.same("10, months of 1107", y.months.len(), 13);
+    checks.same("10, leap of 1107", leap_numbers(y), vec![10]);
     let y = jiyuan.year(1108);
-    checks.same("10, months", y.months.len(), 13);
-    let leap: Vec<u8> = y.months.iter().filter(|m| m.leap).map(|m| m.number).collect();
-    checks.same("10, leap", leap, vec![11]);
+    checks.same("10, months of 1108", y.months.len(), 12);
+    checks.same("10, leap of 1108", leap_numbers(y), vec![]);
 
     // The program's own example: case 9's records and a stray byte; and no
     // input at all.
@@ -126,7 +140,7 @@ fn examples(tables: &Tables, checks: &mut Checks) {
     input.push(0);
     let mut out = Vec::new();
     lines(tables, &input, &mut out).unwrap();
-    let expected = "G 1094 5* 1 2120808 37\n".repeat(4) + "refused 1\n";
+    let expected = "G 1094 5 1 2120808 37\n".repeat(4) + "refused 1\n";
     checks.same("the program", String::from_utf8(out).unwrap(), expected);
     let mut out = Vec::new();
     lines(tables, &[], &mut out).unwrap();
@@ -137,38 +151,80 @@ fn examples(tables: &Tables, checks: &mut Checks) {
     checks.same("shared name, second", name_of(2120868), 37);
 }
 
-/// What the paper says of months and years in general, for every year.
+/// What Q-2 says of two days on which a new moon follows a qi, and of leap 5,
+/// which Guantian 1094 does not have.
+fn days_with_qi_and_moon(tables: &Tables, checks: &mut Checks) {
+    let guantian = tables.table(1).unwrap();
+    let y = guantian.year(1094);
+    let (summer, month) = (&y.qi[12], &y.months[7]);
+    checks.same("Q-2, day of the summer solstice", summer.day, 2120808);
+    checks.same("Q-2, day of the new moon", month.head, 2120808);
+    let parts_between = guantian.system.remainder_of(month.new_moon) - summer.parts;
+    checks.same("Q-2, parts between them", (parts_between, summer.small_units), (76, 0));
+
+    checks.same("Q-2, leap months of 1094", leap_numbers(y), vec![4]);
+    for byte in 0..=255 {
+        checks.same("Q-2, leap 5 by date", by_date(tables, 1, 1094, 5, 1, byte), 6);
+        checks.same("Q-2, leap 5 by name", by_name(tables, 1, 1094, 5, 1, byte), 6);
+    }
+
+    let jiyuan = tables.table(2).unwrap();
+    let (y, last) = (jiyuan.year(1108), &jiyuan.year(1107).months[12]);
+    checks.that(last.new_moon < y.solstice_parts && y.solstice_parts < y.months[0].new_moon, || {
+        "Q-2: the first new moon of Jiyuan 1108 is not the next after its solstice".to_string()
+    });
+    checks.same("Q-2, day of that new moon", y.months[0].head, y.solstice_day);
+}
+
+/// The numbers of the months that hold the middle qi, in order.
+const IN_ORDER: [u8; 12] = [11, 12, 1, 2, 3, 4, 5, 6, 7, 8, 9, 10];
+
+/// The days of a year's twelve middle qi, in order.
+fn middle_days(year: &Year) -> Vec<i128> {
+    year.qi.iter().step_by(2).map(|qi| qi.day).collect()
+}
+
+/// What the papers say of months and years in general, for every year.
 fn facts(table: &Table, checks: &mut Checks) {
     let letter = table.system.letter;
     for number in FIRST_YEAR..=LAST_YEAR {
         let y = table.year(number);
         let say = |what: &str| format!("{} {}: {}", letter, number, what);
+        let middle = middle_days(y);
+        let held = |month: &Month| middle.iter().filter(|day| month.days().contains(day)).count();
 
         for month in &y.months {
             checks.that(month.length == 29 || month.length == 30, || say("a month's length"));
-            checks.that(month.middle_qi_held <= 1, || say("a month holds two middle qi"));
-            checks.that(month.leap == (month.middle_qi_held == 0), || say("a leap mark"));
+            checks.that(held(month) <= 1, || say("a month holds two middle qi"));
+            checks.that(month.leap == (held(month) == 0), || say("a leap mark"));
         }
         checks.that([354, 355, 383, 384].contains(&y.length()), || say("the year's length"));
 
-        let lacking = y.months.iter().filter(|m| m.middle_qi_held == 0).count();
+        let lacking = y.months.iter().filter(|m| held(m) == 0).count();
         match y.months.len() {
             12 => checks.that(lacking == 0, || say("one of twelve lacks a middle qi")),
             13 => checks.that(lacking == 1, || say("not just one of thirteen lacks a middle qi")),
             _ => checks.that(false, || say("neither twelve nor thirteen months")),
         }
 
-        // The first month's new moon is the last at or before the solstice.
-        let first = &y.months[0];
-        checks.that(
-            first.new_moon <= y.solstice_parts && first.next_moon > y.solstice_parts,
-            || say("the first new moon"),
-        );
+        // The solstice's day is one of the first month's days, and each middle
+        // qi's day is one of just one month's, which has the qi's number. No
+        // middle qi of the years around falls on a day of this one.
+        checks.that(y.months[0].days().contains(&y.solstice_day), || say("the first month"));
+        for (day, due) in middle.iter().zip(IN_ORDER) {
+            let holding: Vec<u8> =
+                y.months.iter().filter(|m| m.days().contains(day)).map(|m| m.number).collect();
+            checks.that(holding == [due], || say("the month of a middle qi"));
+        }
+        for around in [number - 1, number + 1] {
+            let outside = |day: &i128| *day < y.head || *day >= y.next_head;
+            checks.that(middle_days(table.year(around)).iter().all(outside), || say("another year's qi"));
+        }
 
         // Each numbered month stands there once, in the order of the paper,
         // and a leap month bears the number of the month before it.
         let plain: Vec<u8> = y.months.iter().filter(|m| !m.leap).map(|m| m.number).collect();
-        checks.that(plain == [11, 12, 1, 2, 3, 4, 5, 6, 7, 8, 9, 10], || say("the numbers"));
+        checks.that(plain == IN_ORDER, || say("the numbers"));
         for i in 1..y.months.len() {
             let (before, month) = (&y.months[i - 1], &y.months[i]);
             checks.that(!month.leap || month.number == before.number, || say("a leap number"));
@@ -177,8 +233,7 @@ fn facts(table: &Table, checks: &mut Checks) {
         // The months tile the days: every day is in exactly one of them, and
         // no month reaches outside of the year.
         for day in y.head..y.next_head {
-            let holding =
-                y.months.iter().filter(|m| m.head <= day && day < m.head + m.length).count();
+            let holding = y.months.iter().filter(|m| m.days().contains(&day)).count();
             checks.that(holding == 1, || say("a day is not in exactly one month"));
         }
         let total: i128 = y.months.iter().map(|m| m.length).sum();
@@ -234,9 +289,9 @@ impl Clock {
     }
 }
 
-/// Solstices, qi and month heads once more, from the epoch by carried steps.
-/// The steps are written out; Guantian's qi step has the 12 small units that
-/// the paper puts in place of the printed 11.
+/// Solstices, qi and months once more, from the epoch by carried steps. The
+/// steps are written out; Guantian's qi step has the 12 small units that the
+/// paper puts in place of the printed 11.
 fn carried_walk(table: &Table, checks: &mut Checks) {
     let system = table.system;
     let clock = |day, parts, small_units| Clock { day, parts, small_units };
@@ -258,7 +313,6 @@ fn carried_walk(table: &Table, checks: &mut Checks) {
         next.add(system, month_step);
         next
     };
-    let at_or_before = |a: Clock, b: Clock| (a.day, a.parts, a.small_units) <= (b.day, b.parts, b.small_units);
     for number in FIRST_YEAR..=LAST_YEAR + 1 {
         let y = table.year(number);
         let say = |what: &str| format!("{} {}: {} by carried steps", system.letter, number, what);
@@ -270,6 +324,7 @@ fn carried_walk(table: &Table, checks: &mut Checks) {
         );
 
         let mut qi = solstice;
+        let mut middle = Vec::new();
         for i in 0..24 {
             let expected = &y.qi[i];
             checks.that(
@@ -278,29 +333,54 @@ fn carried_walk(table: &Table, checks: &mut Checks) {
                     && qi.small_units as i128 == expected.small_units,
                 || say(&format!("qi {}", i)),
             );
+            if i % 2 == 0 {
+                middle.push(qi.day);
+            }
             qi.add(system, qi_step);
         }
         let mut next_solstice = solstice;
         next_solstice.add(system, year_step);
         checks.that(qi == next_solstice, || say("24 qi steps do not close on the year"));
 
-        // New moons: the last at or before the solstice, then each month.
-        while at_or_before(end_of_moon(moon), solstice) {
+        // New moons: the last on the solstice's day or an earlier one.
+        while end_of_moon(moon).day <= solstice.day {
             moon.add(system, month_step);
         }
         checks.that(register(moon) == y.head, || say("head"));
-        let mut month_moon = moon;
-        for month in &y.months {
-            checks.that(
-                register(month_moon) == month.head
-                    && month_moon.parts as i128 == system.remainder_of(month.new_moon),
-                || say("a month's head"),
-            );
-            month_moon.add(system, month_step);
-        }
-        checks.that(register(month_moon) == y.next_head, || say("next head"));
+        carried_months(system, y, moon, month_step, middle, checks);
         solstice = next_solstice;
     }
+}
+
+/// A year's months from its first new moon on, and the days of its middle qi
+/// beside them: a qi whose day comes before a month is over belongs to it, and
+/// the next qi waits for a later month.
+fn carried_months(
+    system: &System,
+    y: &Year,
+    mut moon: Clock,
+    month_step: Clock,
+    middle: Vec<i64>,
+    checks: &mut Checks,
+) {
+    let register = |c: Clock| c.day as i128 - system.count_day_minus;
+    let say = |what: &str| format!("{} {}: {} by carried steps", system.letter, y.number, what);
+    let mut waiting = middle.into_iter().peekable();
+    let mut number = 10;
+    for month in &y.months {
+        checks.that(
+            register(moon) == month.head && moon.parts as i128 == system.remainder_of(month.new_moon),
+            || say("a month's head"),
+        );
+        moon.add(system, month_step);
+        let leap = waiting.next_if(|day| *day < moon.day).is_none();
+        if !leap {
+            number = if number == 12 { 1 } else { number + 1 };
+        }
+        checks.that(month.leap == leap && month.number == number, || say("a month's number"));
+    }
+    checks.that(waiting.next().is_none(), || say("a middle qi is left over"));
+    checks.that(register(moon) == y.next_head, || say("next head"));
 }
 
 /// Every day in all four kinds: the citation names the day that was walked
@@ -355,4 +435,13 @@ fn every_stored_form(tables: &Tables, table: &Table, checks: &mut Checks) {
     }
     checks.that(accepted == table.places.len(), || format!("{} kind 1 records accepted", accepted));
     checks.that(named.iter().all(|n| *n == 1), || "a day has not just one record".to_string());
+}
+
+/// Either leap mark on every month number of every year: store follows the
+/// list of the year's months.
+fn every_leap_mark(tables: &Tables, table: &Table, checks: &mut Checks) {
+    for (record, expected) in leap_marks(table) {
+        let result = store(tables, &record, 10);
+        checks.that(result == expected, || format!("{:?}: {:?}", record, result));
+    }
 }

@@ -1,6 +1,7 @@
 //! What a citation names, what it is refused for, and how its day is stored.
 
 use crate::reckoning::{name_of, Tables, Table, Year, FIRST_YEAR, LAST_YEAR};
+use std::ops::Range;
 
 /// A stored citation: its register day and its ten bytes.
 pub type Stored = (u32, [u8; 10]);
@@ -55,13 +56,13 @@ pub fn named_day(tables: &Tables, input: &[u8]) -> Result<i128, u8> {
 
 /// The days of the month with a number and a leap byte. 6: there can be no
 /// such month, or this year lacks the leap month asked for.
-fn days_of_month(year: &Year, number: u8, leap: u8) -> Result<std::ops::Range<i128>, u8> {
+fn days_of_month(year: &Year, number: u8, leap: u8) -> Result<Range<i128>, u8> {
     if number < 1 || number > 12 || leap > 1 {
         return Err(6);
     }
     for month in &year.months {
         if month.number == number && month.leap == (leap == 1) {
-            return Ok(month.head..month.head + month.length);
+            return Ok(month.days());
         }
     }
     assert!(leap == 1, "a year lacks one of its twelve numbered months");

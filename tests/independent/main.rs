@@ -22,6 +22,7 @@ const USAGE: &str = "usage:
   independent lines < records
   independent cuts LONGEST < records
   independent days SYSTEM
+  independent marks SYSTEM
   independent random SEED COUNT
   independent stream SEED COUNT
   independent cases";
@@ -39,6 +40,8 @@ fn main() {
         ["cuts", longest] => lines::cuts(&Tables::new(), &records(), word(longest), &mut out),
         ["days", "1"] => streams::days(&Table::new(&GUANTIAN), &mut out),
         ["days", "2"] => streams::days(&Table::new(&JIYUAN), &mut out),
+        ["marks", "1"] => streams::marks(&Table::new(&GUANTIAN), &mut out),
+        ["marks", "2"] => streams::marks(&Table::new(&JIYUAN), &mut out),
         ["random", seed, count] => random(word(seed), word(count), &mut out),
         ["stream", seed, count] => stream(word(seed), word(count), &mut out),
         ["cases"] => cases(&mut out),

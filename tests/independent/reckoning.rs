@@ -1,9 +1,10 @@
 //! The reckoning of both systems, in whole numbers only, found by walking and
 //! searching. Nothing here turns a rule round: a year's first month is found
-//! by stepping from new moon to new moon, a month's number by trying every
-//! middle qi against it, a day's place by walking through the days.
+//! by stepping from month to month, a month's number by trying every middle
+//! qi against its days, a day's place by walking through the days.
 
 use std::cell::OnceCell;
+use std::ops::Range;
 
 /// Paper 01, constants: one column of the table.
 pub struct System {
@@ -61,6 +62,10 @@ impl System {
         elapsed * self.parts_in_year
     }
 
+    fn solstice_day(&self, year: i128) -> i128 {
+        self.register_day_of(self.solstice_parts(year))
+    }
+
     /// The register day that a moment falls on: whole days since the epoch,
     /// moved by the table's last row.
     pub fn register_day_of(&self, parts: i128) -> i128 {
@@ -72,15 +77,10 @@ impl System {
         parts % self.parts_in_day
     }
 
-    /// A moment given in parts, in the finest units.
-    pub fn fine(&self, parts: i128) -> i128 {
-        parts * self.small_units_in_part * CUT
-    }
-
     /// The moment of a qi, i equal steps of 24 after the solstice, exactly and
     /// in the finest units, of which a step has Y * small units.
-    pub fn qi_fine(&self, year: i128, i: i128) -> i128 {
-        self.fine(self.solstice_parts(year)) + i * self.parts_in_year * self.small_units_in_part
+    fn qi_fine(&self, year: i128, i: i128) -> i128 {
+        (self.solstice_parts(year) * CUT + i * self.parts_in_year) * self.small_units_in_part
     }
 
     /// The same as a day, and the parts and small units past its beginning.
@@ -111,15 +111,18 @@ pub struct Qi {
 }
 
 pub struct Month {
-    /// Its own new moon and the next one, in parts from the epoch.
+    /// Its own new moon, in parts from the epoch.
     pub new_moon: i128,
-    pub next_moon: i128,
     pub head: i128,
     pub length: i128,
     pub number: u8,
     pub leap: bool,
-    /// How many of the year's twelve middle qi it holds.
-    pub middle_qi_held: usize,
+}
+
+impl Month {
+    pub fn days(&self) -> Range<i128> {
+        self.head..self.head + self.length
+    }
 }
 
 pub struct Year {
@@ -228,32 +231,38 @@ impl Tables {
 /// Years 0 to 3002, by one walk along the mean new moons. The first is the
 /// epoch itself, and each comes M parts after the one before it.
 fn all_years(system: &'static System) -> Vec<Year> {
-    // A year opens with the last new moon that is not after its solstice.
+    // It is a long way to the first of them, on which no day is looked at
+    // until a year before its solstice.
     let mut moon = 0;
-    walk_to_last_at_or_before(system, &mut moon, system.solstice_parts(0));
+    while moon < system.solstice_parts(-1) {
+        moon += system.parts_in_month;
+    }
+    // A year opens with the month that holds its solstice's day.
+    walk_to_month_with(system, &mut moon, system.solstice_day(0));
     let mut years = Vec::new();
     for number in 0..=TABLE_END {
         let first_moon = moon;
         // The next year, found in the same way, ends it.
-        walk_to_last_at_or_before(system, &mut moon, system.solstice_parts(number + 1));
+        walk_to_month_with(system, &mut moon, system.solstice_day(number + 1));
         years.push(year_between(system, number, first_moon, moon));
     }
     years
 }
 
-/// Steps forward while the next new moon is still at or before the moment.
-fn walk_to_last_at_or_before(system: &System, moon: &mut i128, moment: i128) {
-    assert!(*moon <= moment);
-    while *moon + system.parts_in_month <= moment {
+/// Steps forward while the next month's first day is not past the day.
+fn walk_to_month_with(system: &System, moon: &mut i128, day: i128) {
+    assert!(system.register_day_of(*moon) <= day);
+    while system.register_day_of(*moon + system.parts_in_month) <= day {
         *moon += system.parts_in_month;
     }
 }
 
 fn year_between(system: &System, number: i128, first_moon: i128, end_moon: i128) -> Year {
+    let qi: Vec<Qi> = (0..24).map(|i| system.qi(number, i)).collect();
     let mut months = Vec::new();
     let mut moon = first_moon;
     while moon < end_moon {
-        months.push(month_at(system, number, moon, months.last()));
+        months.push(month_at(system, &qi, moon, months.last()));
         moon += system.parts_in_month;
     }
     assert!(moon == end_moon);
@@ -261,40 +270,30 @@ fn year_between(system: &System, number: i128, first_moon: i128, end_moon: i128)
     Year {
         number,
         solstice_parts,
-        solstice_day: system.register_day_of(solstice_parts),
+        solstice_day: system.solstice_day(number),
         solstice_remainder: system.remainder_of(solstice_parts),
-        qi: (0..24).map(|i| system.qi(number, i)).collect(),
+        qi,
         months,
         head: system.register_day_of(first_moon),
         next_head: system.register_day_of(end_moon),
     }
 }
 
-fn month_at(system: &System, year: i128, new_moon: i128, before: Option<&Month>) -> Month {
+fn month_at(system: &System, qi: &[Qi], new_moon: i128, before: Option<&Month>) -> Month {
     // The numbers of the months that hold the year's middle qi, in order.
     const NUMBERS: [u8; 12] = [11, 12, 1, 2, 3, 4, 5, 6, 7, 8, 9, 10];
-    let next_moon = new_moon + system.parts_in_month;
+    // Its days run from the day of its new moon to the day before the next.
+    let head = system.register_day_of(new_moon);
+    let next = system.register_day_of(new_moon + system.parts_in_month);
     let mut held = Vec::new();
     for j in 0..12 {
-        // A qi at the very moment of a new moon is in the month that begins.
-        let moment = system.qi_fine(year, 2 * j);
-        if moment >= system.fine(new_moon) && moment < system.fine(next_moon) {
-            held.push(NUMBERS[j as usize]);
+        // The qi's day decides: on the first day it may come before the moon.
+        if (head..next).contains(&qi[2 * j].day) {
+            held.push(NUMBERS[j]);
         }
     }
     // Without a middle qi of its own it repeats the number before it.
     let leap = held.is_empty();
     let number = if leap { before.expect("the first month is leap").number } else { held[0] };
-    // Its days run from the day of its new moon to the day before the next.
-    let head = system.register_day_of(new_moon);
-    let next = system.register_day_of(next_moon);
-    Month {
-        new_moon,
-        next_moon,
-        head,
-        length: next - head,
-        number,
-        leap,
-        middle_qi_held: held.len(),
-    }
+    Month { new_moon, head, length: next - head, number, leap }
 }

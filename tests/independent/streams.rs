@@ -7,7 +7,7 @@
 
 use crate::citation::{answer, store, Stored};
 use crate::random::Random;
-use crate::reckoning::{name_of, Tables, Place, Table};
+use crate::reckoning::{name_of, Tables, Place, Table, FIRST_YEAR, LAST_YEAR};
 use std::io::{self, Write};
 
 fn frame(
@@ -44,6 +44,13 @@ pub fn citation_of(system: u8, kind: u8, place: Place, day: i128) -> Vec<u8> {
     }
 }
 
+/// A day as it is to be stored.
+fn stored_at(system: u8, place: Place, day: i128) -> Stored {
+    let mut record = [0; 10];
+    record.copy_from_slice(&citation_of(system, 1, place, day));
+    (day as u32, record)
+}
+
 /// Every day of years 1 to 3000 of one system in all four kinds. What is
 /// expected comes from the walk through the days, not from the citation.
 pub fn days(table: &Table, out: &mut impl Write) -> io::Result<()> {
@@ -51,15 +58,44 @@ pub fn days(table: &Table, out: &mut impl Write) -> io::Result<()> {
     let mut day = table.first_day;
     let mut output_length = 10;
     for place in &table.places {
-        let stored = citation_of(system, 1, *place, day);
-        let mut record = [0; 10];
-        record.copy_from_slice(&stored);
-        let expected = Ok((day as u32, record));
+        let expected = Ok(stored_at(system, *place, day));
         for kind in 1..=4 {
             frame(out, &citation_of(system, kind, *place, day), output_length, &expected)?;
             output_length = if output_length == 16 { 10 } else { output_length + 1 };
         }
         day += 1;
+    }
+    Ok(())
+}
+
+/// Every month number of years 1 to 3000 with either leap mark, in kinds 1 and
+/// 2, and what is expected by the list of the year's months. The first day of
+/// such a month is cited; where there is none, that of the unmarked month, so
+/// that nothing but the mark speaks against it.
+pub fn leap_marks(table: &Table) -> Vec<(Vec<u8>, Result<Stored, u8>)> {
+    let system = table.system.number;
+    let mut marked = Vec::new();
+    for year in FIRST_YEAR..=LAST_YEAR {
+        let months = &table.year(year).months;
+        for number in 1..=12 {
+            for leap in [false, true] {
+                let with = |mark| months.iter().find(|m| m.number == number && m.leap == mark);
+                let day = with(leap).or(with(false)).unwrap().head;
+                let place = Place { leap, ..table.place(day).unwrap() };
+                for kind in 1..=2 {
+                    let expected = with(leap).map(|_| stored_at(system, place, day)).ok_or(6);
+                    marked.push((citation_of(system, kind, place, day), expected));
+                }
+            }
+        }
+    }
+    marked
+}
+
+/// The same as frames.
+pub fn marks(table: &Table, out: &mut impl Write) -> io::Result<()> {
+    for (input, expected) in leap_marks(table) {
+        frame(out, &input, 10, &expected)?;
     }
     Ok(())
 }
