@@ -33,14 +33,55 @@ static const struct calendar jiyuan = {
     7290, 2662626, 215278, 28613460 - 1100, 10448760934
 };
 
-INLINE uint64_t month_of_qi(const struct calendar *c, uint64_t qi)
+/* A month, its first day and the next month's, as count days. */
+struct month {
+    uint64_t count;
+    uint64_t head;
+    uint64_t next;
+};
+
+INLINE uint64_t day_of_qi(const struct calendar *c, uint64_t qi)
 {
-    return qi * c->year / (12 * c->month);
+    return qi * c->year / (12 * c->day);
 }
 
 INLINE uint64_t head_of_month(const struct calendar *c, uint64_t month)
 {
     return month * c->month / c->day;
+}
+
+/* From the new moon to the end of the day there are as many whole days as the
+ * month has days before this one; what is left of it has the days after. */
+INLINE struct month month_of_day(const struct calendar *c, uint64_t day)
+{
+    uint64_t day_end = (day + 1) * c->day - 1;
+    uint32_t into = (uint32_t)(day_end % c->month);
+    uint32_t left = (uint32_t)c->month - into - 1;
+    struct month found = {
+        day_end / c->month,
+        day - into / (uint32_t)c->day,
+        day + 1 + left / (uint32_t)c->day
+    };
+
+    return found;
+}
+
+/* The last middle qi before the end of a month; whether the month is leap,
+ * that is, whether that qi fell before its first day. */
+struct last_qi {
+    uint64_t qi;
+    uint32_t leap;
+};
+
+INLINE struct last_qi last_qi(const struct calendar *c, struct month month)
+{
+    uint64_t month_end = 12 * c->day * month.next - 1;
+    struct last_qi found = {
+        month_end / c->year,
+        month_end % c->year >= 12 * c->day * (month.next - month.head)
+    };
+
+    return found;
 }
 
 INLINE uint32_t number_of_qi(uint32_t qi_of_year)

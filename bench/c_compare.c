@@ -30,18 +30,19 @@ struct months {
 INLINE void reckon(const struct calendar *c, uint32_t year, struct months *m)
 {
     uint64_t qi = 12 * (c->elapsed + year);
-    uint64_t first = month_of_qi(c, qi);
-    uint64_t next = month_of_qi(c, qi + 12);
+    struct month month = month_of_day(c, day_of_qi(c, qi));
+    uint64_t end = month_of_day(c, day_of_qi(c, qi + 12)).count;
 
-    m->count = (uint32_t)(next - first);
+    m->count = (uint32_t)(end - month.count);
     for (uint32_t i = 0; i < m->count; i++) {
-        uint64_t month = first + i;
-        uint64_t end = 12 * (month + 1) * c->month - 1;
-        uint32_t qi_of_year = (uint32_t)(end / c->year - qi);
+        struct last_qi last = last_qi(c, month);
 
-        m->head[i] = (uint32_t)(head_of_month(c, month) - c->anchor);
-        m->number[i] = number_of_qi(qi_of_year);
-        m->leap[i] = end % c->year >= 12 * c->month;
+        m->head[i] = (uint32_t)(month.head - c->anchor);
+        m->number[i] = number_of_qi((uint32_t)(last.qi - qi));
+        m->leap[i] = last.leap;
+        month.count++;
+        month.head = month.next;
+        month.next = head_of_month(c, month.count + 1);
     }
 }
 

@@ -48,22 +48,23 @@ INLINE uint64_t refuse(uint64_t number)
 
 /* The reckoning. */
 
+/* The solstice's day is the year's first middle qi's. */
 INLINE uint64_t head_of_year(const struct calendar *c, uint32_t year)
 {
-    return head_of_month(c, month_of_qi(c, 12 * (c->elapsed + year)));
+    return month_of_day(c, (c->elapsed + year) * c->year / c->day).head;
 }
 
 /* A month as kinds 1 and 2 cite it. */
-struct month {
+struct cited {
     uint32_t refusal;   /* 0, 5 or 6 */
     uint32_t length;
     uint64_t head;      /* count day */
 };
 
-INLINE struct month cited_month(const struct calendar *c, uint32_t year,
+INLINE struct cited cited_month(const struct calendar *c, uint32_t year,
                                 uint32_t number, uint32_t leap)
 {
-    struct month found = {0, 0, 0};
+    struct cited found = {0, 0, 0};
 
     if (year - 1 >= LAST_YEAR) {
         found.refusal = 5;
@@ -76,26 +77,23 @@ INLINE struct month cited_month(const struct calendar *c, uint32_t year,
 
     /* The year begins with month 11, so months 11 and 12 come before 1. */
     uint32_t qi_of_year = number + 1 - (number > 10 ? 12 : 0);
-    uint64_t moment =
-        (12 * (c->elapsed + year) + qi_of_year) * c->year;
-    uint64_t month = moment / (12 * c->month);
+    uint64_t qi = 12 * (c->elapsed + year) + qi_of_year;
+    struct month month = month_of_day(c, day_of_qi(c, qi));
 
     if (leap) {
-        /* A leap month comes next exactly when the next middle qi misses it,
-         * that is, falls two months' lengths or more after this new moon. */
-        if (moment % (12 * c->month) + c->year < 24 * c->month) {
+        /* A leap month comes next exactly when the next middle qi falls
+         * after its end. */
+        uint64_t end = head_of_month(c, month.count + 2);
+        if (day_of_qi(c, qi + 1) < end) {
             found.refusal = 6;
             return found;
         }
-        month++;
+        month.head = month.next;
+        month.next = end;
     }
 
-    /* A month has 29 whole days and some parts, so it has a thirtieth day
-     * when these carry the remainder of its new moon over a day's end. */
-    uint64_t new_moon = month * c->month;
-    found.head = new_moon / c->day;
-    found.length =
-        29 + (new_moon % c->day + c->month >= 30 * c->day ? 1 : 0);
+    found.head = month.head;
+    found.length = (uint32_t)(month.next - month.head);
     return found;
 }
 
@@ -108,19 +106,10 @@ struct date {
 
 INLINE struct date date_of_day(const struct calendar *c, uint64_t day)
 {
-    struct date found;
+    struct month month = month_of_day(c, day);
+    struct last_qi last = last_qi(c, month);
+    struct date found = {last.qi, last.leap, (uint32_t)(day - month.head) + 1};
 
-    /* From the new moon to the end of the day there are as many whole days
-     * as the month has days before this one. */
-    uint64_t day_end = (day + 1) * c->day - 1;
-    uint64_t month = day_end / c->month;
-    uint32_t into_month = (uint32_t)(day_end % c->month);
-    found.day = into_month / (uint32_t)c->day + 1;
-
-    /* A month is leap when its last middle qi was before its own new moon. */
-    uint64_t month_end = 12 * (month + 1) * c->month - 1;
-    found.qi = month_end / c->year;
-    found.leap = month_end % c->year >= 12 * c->month;
     return found;
 }
 
@@ -129,7 +118,7 @@ INLINE struct date date_of_day(const struct calendar *c, uint64_t day)
 INLINE uint64_t store_kind_1(const struct calendar *c, const uint8_t *input,
                              uint8_t *output, size_t output_len)
 {
-    struct month month =
+    struct cited month =
         cited_month(c, get_16(input + 5), input[7], input[8]);
     uint32_t before = (uint32_t)input[9] - 1;
 
@@ -147,7 +136,7 @@ INLINE uint64_t store_kind_2(const struct calendar *c, const uint8_t *input,
                              uint8_t *output, size_t output_len)
 {
     uint32_t year = get_16(input + 5);
-    struct month month = cited_month(c, year, input[7], input[8]);
+    struct cited month = cited_month(c, year, input[7], input[8]);
     uint32_t name = input[9];
 
     if (month.refusal)

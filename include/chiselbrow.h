@@ -14,10 +14,10 @@
  *
  *     int main(void)
  *     {
- *         // Guantian, year 1094, leap month 5, the day named 37
+ *         // Guantian, year 1094, leap month 4, the day named 7
  *         uint8_t cited[CHISELBROW_CITATION_ROOM];
  *         size_t size = chiselbrow_cite_name(cited, CHISELBROW_GUANTIAN,
- *                                            1094, 5, 1, 37);
+ *                                            1094, 4, 1, 7);
  *         uint8_t stored[CHISELBROW_STORED_SIZE];
  *         uint64_t answer = chiselbrow_store(cited, size,
  *                                            stored, sizeof stored);
@@ -34,7 +34,7 @@
  *         return 0;
  *     }
  *
- * It prints "register day 2120808, day 1 of leap month 5".
+ * It prints "register day 2120778, day 1 of leap month 4".
  *
  * Link with -lchiselbrow; nothing else is needed. The library is an archive
  * and a shared library. The linker takes the shared one, which the loader has
@@ -48,20 +48,22 @@
  *               date can fall on different days in the two.
  *
  * year          Numbered 1 to 3000 like the common years. It opens with month
- *               11, the month of the winter solstice, and so begins late in
- *               the common year before; its months run 11, 12, 1, 2 up to 10.
- *               So Guantian year 1094, month 11, day 1 is 21 November 1093 of
- *               the Julian calendar. Where a source begins its years with
- *               month 1, its months 11 and 12, leap or not, are cited here
- *               with the number of the year after: month 11 of its 1093 is
- *               month 11 of 1094. A leap month 10 stays with its year.
+ *               11, which has the day of the winter solstice, and so begins
+ *               late in the common year before; its months run 11, 12, 1, 2
+ *               up to 10. So Guantian year 1094, month 11, day 1 is 21
+ *               November 1093 of the Julian calendar. Where a source begins
+ *               its years with month 1, its months 11 and 12, leap or not,
+ *               are cited here with the number of the year after: month 11 of
+ *               its 1093 is month 11 of 1094. A leap month 10 stays with its
+ *               year.
  *
  * leap          The twelve middle qi, equal steps of the sun's year counted
  *               from the winter solstice, give the months their numbers. A
- *               year of thirteen months has one month in which none of them
- *               falls. That month is leap: it repeats the number of the month
- *               just before it, and is told apart by its leap mark, 1 where
- *               all other months have 0.
+ *               month holds a middle qi that falls on one of its days. A year
+ *               of thirteen months has one month that holds none. That month
+ *               is leap: it repeats the number of the month just before it,
+ *               and is told apart by its leap mark, 1 where all other months
+ *               have 0.
  *
  * register day  The day's own number: its Julian Day Number, taken for the
  *               civil day from midnight to midnight. With the system it
@@ -100,8 +102,8 @@
  * 30 of them. Since that is less than sixty, a name fits at most one day of a
  * month. The same day four times over, each stored as the first:
  *
- *     0A 00 01 00 01 46 04 05 01 01    year 1094, leap month 5, day 1
- *     0A 00 02 00 01 46 04 05 01 25    year 1094, leap month 5, name 37
+ *     0A 00 01 00 01 46 04 05 00 01    year 1094, month 5, day 1
+ *     0A 00 02 00 01 46 04 05 00 25    year 1094, month 5, name 37
  *     09 00 03 00 01 46 04 D0 00       year 1094, ordinal 208
  *     09 00 04 00 01 68 5C 20 00       register day 2120808
  *
