@@ -1,6 +1,6 @@
 -- The cases of each kind's judgement: refused by the reckoning, at a wrong place, or accepted.
 use Prim.Native.Nat.{ℕ, _+_, _-_, _%_, _≤_, _<_}
-use mathlib.Core.Path.{_≡_, ap, ap₂, sym, subst, _∙_}
+use mathlib.Core.Path.{_≡_, refl, ap, ap₂, sym, subst, _∙_}
 use mathlib.Core.Bool.{Bool, true, false, true≢false, cond, _||_}
 use mathlib.Core.List.{List}
 use native.Mathlib.Decide.{ℕ-discrete}
@@ -13,7 +13,7 @@ use Rattle.calendar.proofs.Rising.{by-order}
 use Rattle.reckoning.specs.RefusalNumbers.{SHORT, KIND, LENGTH, DAY}
 use Rattle.citation.specs.Record.{lengthField, kindOf, systemOf, kindLength}
 use Rattle.citation.specs.Record.{yearField, monthField, leapField, dayField, nameField, ordinalField, registerDayField}
-use Rattle.citation.specs.JudgeInputs.{Whole}
+use Rattle.citation.specs.JudgeParts.{Whole, ofAnotherYear, judgeDated}
 use Rattle.citation.specs.CitationRefusals.{WrongLength}
 use lib.Dec.{ltb, leb, eqb}
 use borrow.Author.Tests.{eq-eqb, ne-eqb, lt-ltb, le-ltb, le-leb, lt-leb}
@@ -58,6 +58,26 @@ module _ (system r : ℕ) (d : Date) (e : d ≡ dateOf system r) where
 
   pub date-accepted : d .refusal ≡ 0 → on-date ≡ judgeRegisterDay system r
   date-accepted h = accepted-by (d .refusal) false on-date h ∙ dated
+
+-- The same, where a year may be asked for.
+module _ (system r asked : ℕ) (d : Date) (e : d ≡ dateOf system r) where
+  dated-of : unlessRefused (d .refusal) (unlessWrong (ofAnotherYear (d .year) asked) (on-date system r d e)) ≡ judgeDated system r asked
+  unfolding judgeDated
+  dated-of = ap (λ x. unlessRefused (x .refusal) (unlessWrong (ofAnotherYear (x .year) asked) (accept r system (x .year) (x .month) (x .leap) (x .day)))) e
+
+  pub dated-refused : (d .refusal ≡ 0 → ⊥) → refuse (d .refusal) ≡ judgeDated system r asked
+  dated-refused h = refused-by (d .refusal) false (unlessWrong (ofAnotherYear (d .year) asked) (on-date system r d e)) h ∙ dated-of
+
+  pub dated-elsewhere : d .refusal ≡ 0 → ofAnotherYear (d .year) asked ≡ true → refuse DAY ≡ judgeDated system r asked
+  dated-elsewhere h w = wrong-place (d .refusal) (ofAnotherYear (d .year) asked) (on-date system r d e) h w ∙ dated-of
+
+  pub dated-right : d .refusal ≡ 0 → ofAnotherYear (d .year) asked ≡ false → on-date system r d e ≡ judgeDated system r asked
+  dated-right h w = right-place (d .refusal) (ofAnotherYear (d .year) asked) (on-date system r d e) h w ∙ dated-of
+
+-- Kind 4 asks for no year.
+pub of-any-year : (system r : ℕ) → judgeDated system r 0 ≡ judgeRegisterDay system r
+unfolding judgeDated judgeRegisterDay
+of-any-year system r = refl
 
 -- Kind 3, with the year's days.
 module _ (system year ordinal : ℕ) (y : Days) (e : y ≡ daysOf system year) where
@@ -170,6 +190,19 @@ module _ (s : List ℕ) {j : Judgement} {system : ℕ} (system-is : system ≡ s
       e
       ∙ (λ i. judgeRegisterDay (system-is i) (r i))
       ∙ simp (ne-eqb (kindOf s) 1 (omega arith), ne-eqb (kindOf s) 2 (omega arith), ne-eqb (kindOf s) 3 (omega arith))
+
+  -- kinds 1 and 2 are refused as their month is
+  pub kind-one-or-two : {year month leap : ℕ} {m : Month} → Inside 1 2 (kindOf s) → m ≡ monthOf system year month leap
+      → (m .refusal ≡ 0 → ⊥)
+      → j ≡ refuse (m .refusal)
+      → year ≡ yearField s
+      → month ≡ monthField s
+      → leap ≡ leapField s
+      → j ≡ judgeKind s
+  kind-one-or-two {year} {month} {leap} {m} k is some e year-is month-is leap-is =
+      by-order (kindOf s) 2
+      (λ l. kind-one (omega (arith, k)) (e ∙ month-refused system year month leap (dayField s) m is some) year-is month-is leap-is refl)
+      (λ l. kind-two (omega (arith, k)) (e ∙ name-month-refused system year month leap (nameField s) m is some) year-is month-is leap-is refl)
 
 -- The length field, as read, against the length of the kind.
 module _ (s : List ℕ) {field size : ℕ} (field-is : field ≡ lengthField s) (size-is : size ≡ kindLength (kindOf s)) where

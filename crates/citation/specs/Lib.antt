@@ -10,5 +10,5 @@ pub mod CitationRefusals
 pub mod Store
 -- What the demands ask for, in words.
 pub mod DemandWords
--- What the parts of the judgement are handed.
-pub mod JudgeInputs
+-- What the parts of the judgement are handed and give.
+pub mod JudgeParts

@@ -2,15 +2,16 @@
 ghost use mathlib.Core.Path.{_≡_};
 ghost use Prim.Native.Nat.{_≤_, _<_};
 ghost use lib.ListN.{length};
-ghost use Rattle.citation.specs.Store.{refuse, accept, judgeRegisterDay, judgeOrdinal, judgeDay, judgeName, lengthRight, judgeKind, judgeOf};
+ghost use Rattle.citation.specs.Store.{refuse, accept, judgeOrdinal, judgeDay, judgeName, lengthRight, judgeKind, judgeOf};
 ghost use Rattle.citation.specs.Record.{kindOf, kindLength};
-ghost use Rattle.citation.specs.JudgeInputs.{Fields, Whole};
+ghost use Rattle.citation.specs.JudgeParts.{Fields, Whole, Found, ofAnotherYear, judgeDated};
 use calendar::data::DayName;
 use calendar::data::Ordinal;
 use calendar::data::RegisterDay;
 use little_endian::le16;
 use little_endian::le32;
 use little_endian::wide;
+use reckoning::data::Month;
 use reckoning::refusal::outside;
 use reckoning::refusal_numbers::DAY;
 use reckoning::refusal_numbers::KIND;
@@ -56,14 +57,24 @@ fn accept(r: u32, system: u32, year: u32, month: u32, leap: u32, day: u32) -> Ju
     }
 }
 
-// Kind 4.
-fn judge_register_day(system: u32, day: RegisterDay) -> Judgement
+// A date's year is not the year that is asked for, where one is: 0 asks for none.
+fn of_another_year(year: u32, asked: u32) -> bool
+    ensures { λ r. ⌜ r ≡ ofAnotherYear year asked ⌝ }
+{
+    asked != 0 && year != asked
+}
+
+// A register day, stored by its date.
+fn judge_dated(system: u32, day: RegisterDay, year: u32) -> Judgement
     requires { ⌜ system < 256 ⌝ }
-    ensures { λ r. ⌜ r ≡ judgeRegisterDay system (day .0) ⌝ }
+    ensures { λ r. ⌜ r ≡ judgeDated system (day .0) year ⌝ }
 {
     let d = reckoning::date(system, day);
     if d.refusal != 0 {
         return refuse(d.refusal);
+    }
+    if of_another_year(d.year as u32, year) {
+        return refuse(DAY);
     }
     accept(
         day.0,
@@ -75,7 +86,8 @@ fn judge_register_day(system: u32, day: RegisterDay) -> Judgement
     )
 }
 
-// Kind 3.
+// Kind 3. Past the year's end a day is dated in another year, or not at all, so that the head of the year after need not
+// be reckoned.
 fn judge_ordinal(system: u32, year: u32, ordinal: Ordinal) -> Judgement
     requires { ⌜ system < 256 ⌝ }
     ensures { λ r. ⌜ r ≡ judgeOrdinal system year (ordinal .0) ⌝ }
@@ -84,36 +96,29 @@ fn judge_ordinal(system: u32, year: u32, ordinal: Ordinal) -> Judgement
     if y.refusal != 0 {
         return refuse(y.refusal);
     }
-    if outside(1, y.length as u32, ordinal.0 as u32) {
+    if ordinal.0 == 0 {
         return refuse(DAY);
     }
-    judge_register_day(system, RegisterDay(y.head.0 + ordinal.0 as u32 - 1))
+    let day = y.head.0 + ordinal.0 as u32 - 1;
+    judge_dated(system, RegisterDay(day), year)
 }
 
-// Kind 1.
-fn judge_day(system: u32, year: u32, month: u32, leap: u32, day: u32) -> Judgement
-    requires { ⌜ Fields system year month leap day ⌝ }
+// Kind 1, in its month.
+fn judge_day(m: Month, system: u32, year: u32, month: u32, leap: u32, day: u32) -> Judgement
+    requires { ⌜ Fields system year month leap day × Found m system year month leap ⌝ }
     ensures { λ r. ⌜ r ≡ judgeDay system year month leap day ⌝ }
 {
-    let m = reckoning::month(system, year, month, leap);
-    if m.refusal != 0 {
-        return refuse(m.refusal);
-    }
     if outside(1, m.length as u32, day) {
         return refuse(DAY);
     }
     accept(m.head.0 + day - 1, system, year, month, leap, day)
 }
 
-// Kind 2.
-fn judge_name(system: u32, year: u32, month: u32, leap: u32, name: DayName) -> Judgement
-    requires { ⌜ Fields system year month leap 0 ⌝ }
+// Kind 2, in its month.
+fn judge_name(m: Month, system: u32, year: u32, month: u32, leap: u32, name: DayName) -> Judgement
+    requires { ⌜ Fields system year month leap 0 × Found m system year month leap ⌝ }
     ensures { λ r. ⌜ r ≡ judgeName system year month leap (name .0) ⌝ }
 {
-    let m = reckoning::month(system, year, month, leap);
-    if m.refusal != 0 {
-        return refuse(m.refusal);
-    }
     if 59 < name.0 {
         return refuse(DAY);
     }
@@ -130,19 +135,24 @@ fn judge_kind(s: &[u8], kind: u32) -> Judgement
     ensures { λ r. ⌜ r ≡ judgeKind (now (s .entry)) ⌝ }
 {
     let system = wide(s[4]);
-    if kind == 1 {
+    if kind <= 2 {
         let year = le16(s[5], s[6]);
-        return judge_day(system, year, wide(s[7]), wide(s[8]), wide(s[9]));
-    }
-    if kind == 2 {
-        let year = le16(s[5], s[6]);
-        return judge_name(system, year, wide(s[7]), wide(s[8]), DayName(s[9]));
+        let month = wide(s[7]);
+        let leap = wide(s[8]);
+        let m = reckoning::month(system, year, month, leap);
+        if m.refusal != 0 {
+            return refuse(m.refusal);
+        }
+        if kind == 1 {
+            return judge_day(m, system, year, month, leap, wide(s[9]));
+        }
+        return judge_name(m, system, year, month, leap, DayName(s[9]));
     }
     if kind == 3 {
         let year = le16(s[5], s[6]);
         return judge_ordinal(system, year, Ordinal(le16(s[7], s[8]) as u16));
     }
-    judge_register_day(system, RegisterDay(le32(s[5], s[6], s[7], s[8])))
+    judge_dated(system, RegisterDay(le32(s[5], s[6], s[7], s[8])), 0)
 }
 
 // Bytes in a record of a kind.

@@ -1,9 +1,26 @@
-use mathlib.Core.Path.{refl}
+use mathlib.Core.Path.{refl, _∙_}
 use native.Mathlib.Omega.{arith}
-use Rattle.citation.proofs.JudgementCases.{kind-one, kind-two, kind-three, kind-four}
+use Rattle.citation.specs.JudgeParts.{Whole}
+use Rattle.citation.proofs.JudgementCases.{of-any-year, kind-one-or-two, kind-one, kind-two, kind-three, kind-four}
 use borrow.Author.Needs.{needs}
 use Rattle.citation.proofs.judge.judge_kind.Statement.{statement}
 use Rattle.citation.proofs.judge.judge_kind.Tie as tie
+
+-- The places that a refused month goes back to, each from the one after it, and what is known of the record there.
+abbrev month-read : tie.Then2 → tie.After-month
+month-read c = c .before .before
+
+abbrev fields-read : tie.After-month → tie.After-le16
+fields-read c = c .before .before .before .before .before
+
+abbrev by-month : tie.After-le16 → tie.Then1
+by-month c = c .before .before .before
+
+abbrev start : tie.Then1 → tie.Start
+start c = c .before .before .before .before
+
+kind-known : (c : tie.After-month) → let start = start (by-month (fields-read c)) in Whole (start .args .s .now) (start .args .kind)
+kind-known c = start (by-month (fields-read c)) .pre
 
 shared-slice-read-wide : tie.Need-shared-slice-read-wide
 shared-slice-read-wide c = search needs
@@ -32,6 +49,21 @@ shared-slice-read-wide-3 c = search needs
 wide-requires-3 : tie.Need-wide-requires-3
 wide-requires-3 c κs = search needs
 
+month-requires : tie.Need-month-requires
+month-requires c κs = search needs
+
+refuse-requires : tie.Need-refuse-requires
+refuse-requires c κs = search needs
+
+returns : tie.Need-returns
+returns c =
+    kind-one-or-two _ (omega arith) (omega (arith, kind-known (month-read (c .before)))) (month-read (c .before) .month .ensures)
+    (c .before .if2 .taken)
+    (c .refuse .ensures)
+    (omega arith)
+    (omega arith)
+    (omega arith)
+
 shared-slice-read-wide-4 : tie.Need-shared-slice-read-wide-4
 shared-slice-read-wide-4 c = search needs
 
@@ -41,8 +73,17 @@ wide-requires-4 c κs = search needs
 judge-day-requires : tie.Need-judge-day-requires
 judge-day-requires c κs = search needs
 
-returns : tie.Need-returns
-returns c = kind-one _ (omega arith) (omega arith) (c .judge-day .ensures) (omega arith) (omega arith) (omega arith) (omega arith)
+returns-2 : tie.Need-returns-2
+returns-2 c = kind-one _ (omega arith) (omega arith) (c .judge-day .ensures) (omega arith) (omega arith) (omega arith) (omega arith)
+
+shared-slice-read-t13 : tie.Need-shared-slice-read-t13
+shared-slice-read-t13 c = search needs
+
+judge-name-requires : tie.Need-judge-name-requires
+judge-name-requires c κs = search needs
+
+returns-3 : tie.Need-returns-3
+returns-3 c = kind-two _ (omega arith) (omega arith) (c .judge-name .ensures) (omega arith) (omega arith) (omega arith) refl
 
 shared-slice-read-le16-3 : tie.Need-shared-slice-read-le16-3
 shared-slice-read-le16-3 c = search needs
@@ -53,27 +94,6 @@ shared-slice-read-le16-4 c = search needs
 le16-requires-2 : tie.Need-le16-requires-2
 le16-requires-2 c κs = search needs
 
-shared-slice-read-wide-5 : tie.Need-shared-slice-read-wide-5
-shared-slice-read-wide-5 c = search needs
-
-wide-requires-5 : tie.Need-wide-requires-5
-wide-requires-5 c κs = search needs
-
-shared-slice-read-wide-6 : tie.Need-shared-slice-read-wide-6
-shared-slice-read-wide-6 c = search needs
-
-wide-requires-6 : tie.Need-wide-requires-6
-wide-requires-6 c κs = search needs
-
-shared-slice-read-t30 : tie.Need-shared-slice-read-t30
-shared-slice-read-t30 c = search needs
-
-judge-name-requires : tie.Need-judge-name-requires
-judge-name-requires c κs = search needs
-
-returns-2 : tie.Need-returns-2
-returns-2 c = kind-two _ (omega arith) (omega arith) (c .judge-name .ensures) (omega arith) (omega arith) (omega arith) refl
-
 shared-slice-read-le16-5 : tie.Need-shared-slice-read-le16-5
 shared-slice-read-le16-5 c = search needs
 
@@ -83,23 +103,14 @@ shared-slice-read-le16-6 c = search needs
 le16-requires-3 : tie.Need-le16-requires-3
 le16-requires-3 c κs = search needs
 
-shared-slice-read-le16-7 : tie.Need-shared-slice-read-le16-7
-shared-slice-read-le16-7 c = search needs
-
-shared-slice-read-le16-8 : tie.Need-shared-slice-read-le16-8
-shared-slice-read-le16-8 c = search needs
-
-le16-requires-4 : tie.Need-le16-requires-4
-le16-requires-4 c κs = search needs
-
-cast-t39 : tie.Need-cast-t39
-cast-t39 c = search needs
+cast-t31 : tie.Need-cast-t31
+cast-t31 c = search needs
 
 judge-ordinal-requires : tie.Need-judge-ordinal-requires
 judge-ordinal-requires c κs = search needs
 
-returns-3 : tie.Need-returns-3
-returns-3 c = kind-three _ (omega arith) (omega arith) (c .judge-ordinal .ensures) (omega arith) (omega arith)
+returns-4 : tie.Need-returns-4
+returns-4 c = kind-three _ (omega arith) (omega arith) (c .judge-ordinal .ensures) (omega arith) (omega arith)
 
 shared-slice-read-le32 : tie.Need-shared-slice-read-le32
 shared-slice-read-le32 c = search needs
@@ -116,11 +127,11 @@ shared-slice-read-le32-4 c = search needs
 le32-requires : tie.Need-le32-requires
 le32-requires c κs = search needs
 
-judge-register-day-requires : tie.Need-judge-register-day-requires
-judge-register-day-requires c κs = search needs
+judge-dated-requires : tie.Need-judge-dated-requires
+judge-dated-requires c κs = search needs
 
-returns-4 : tie.Need-returns-4
-returns-4 c = kind-four _ (omega arith) (omega arith) (c .judge-register-day .ensures) (omega arith)
+returns-5 : tie.Need-returns-5
+returns-5 c = kind-four _ (omega arith) (omega arith) (c .judge-dated .ensures ∙ of-any-year _ _) (omega arith)
 
 pub judge-kind-spec : {M : Type 1} → statement M
 judge-kind-spec =
@@ -135,33 +146,29 @@ judge-kind-spec =
     wide-requires-2
     shared-slice-read-wide-3
     wide-requires-3
+    month-requires
+    refuse-requires
+    returns
     shared-slice-read-wide-4
     wide-requires-4
     judge-day-requires
-    returns
+    returns-2
+    shared-slice-read-t13
+    judge-name-requires
+    returns-3
     shared-slice-read-le16-3
     shared-slice-read-le16-4
     le16-requires-2
-    shared-slice-read-wide-5
-    wide-requires-5
-    shared-slice-read-wide-6
-    wide-requires-6
-    shared-slice-read-t30
-    judge-name-requires
-    returns-2
     shared-slice-read-le16-5
     shared-slice-read-le16-6
     le16-requires-3
-    shared-slice-read-le16-7
-    shared-slice-read-le16-8
-    le16-requires-4
-    cast-t39
+    cast-t31
     judge-ordinal-requires
-    returns-3
+    returns-4
     shared-slice-read-le32
     shared-slice-read-le32-2
     shared-slice-read-le32-3
     shared-slice-read-le32-4
     le32-requires
-    judge-register-day-requires
-    returns-4)
+    judge-dated-requires
+    returns-5)

@@ -1,36 +1,23 @@
-use mathlib.Core.Path.{_≡_, sym, _∙_}
-use mathlib.Core.Bool.{false}
+use mathlib.Core.Path.{_∙_}
 use native.Mathlib.Omega.{arith}
-use Rattle.calendar.specs.Inside.{Inside}
-use Rattle.reckoning.specs.ComputedRefusals.{outside}
-use Rattle.reckoning.proofs.RefusalCases.{inside-of}
-use Rattle.reckoning.proofs.AnswersFit.{days-fit}
-use Rattle.citation.proofs.JudgementCases.{year-refused, ordinal-wrong, ordinal-right}
+use Rattle.citation.proofs.JudgementCases.{year-refused}
+use Rattle.citation.proofs.OrdinalByDate.{no-ordinal, day-fits, by-date}
 use borrow.Author.Needs.{needs}
 use Rattle.citation.proofs.judge.judge_ordinal.Statement.{statement}
 use Rattle.citation.proofs.judge.judge_ordinal.Tie as tie
 
 -- The places that the answers go back to, each from the one after it.
-abbrev refused-year : tie.Then1 → tie.After-days
-refused-year c = c .before .before
+abbrev no-year : tie.Then1 → tie.After-days
+no-year c = c .before .before
 
-abbrev days : tie.Else1 → tie.After-days
-days c = c .before .before
+abbrev year : tie.Else1 → tie.After-days
+year c = c .before .before
 
-abbrev tested : tie.After-outside → tie.Else1
-tested c = c .before .before .before
+abbrev no-such-ordinal : tie.Then2 → tie.Else1
+no-such-ordinal c = c .before .before
 
-ordinal-inside : (c : tie.Else2) →
-    let days = days (tested (c .before)) in
-    outside 1 (days .days .result .length) (days .before .args .ordinal .0) ≡ false
-ordinal-inside c = sym (c .before .outside .ensures) ∙ c .if2 .left
-
-ordinal-placed : (c : tie.Else2) →
-    let days = days (tested (c .before)) in
-    Inside 1 (days .days .result .length) (days .before .args .ordinal .0)
-ordinal-placed c =
-    let days = days (tested (c .before)) in
-    inside-of 1 (days .days .result .length) (days .before .args .ordinal .0) (ordinal-inside c)
+abbrev accepted : tie.Else2 → tie.Else1
+accepted c = c .before .before
 
 days-requires : tie.Need-days-requires
 days-requires c κs = search needs
@@ -39,49 +26,35 @@ refuse-requires : tie.Need-refuse-requires
 refuse-requires c κs = search needs
 
 returns : tie.Need-returns
-returns c = c .refuse .ensures ∙ year-refused _ _ _ _ (refused-year (c .before) .days .ensures) (c .before .if1 .taken)
-
-cast-outside : tie.Need-cast-outside
-cast-outside c = search needs
-
-cast-outside-2 : tie.Need-cast-outside-2
-cast-outside-2 c = search needs
-
-outside-requires : tie.Need-outside-requires
-outside-requires c κs = search needs
+returns c = c .refuse .ensures ∙ year-refused _ _ _ _ (no-year (c .before) .days .ensures) (c .before .if1 .taken)
 
 refuse-requires-2 : tie.Need-refuse-requires-2
 refuse-requires-2 c κs = search needs
 
 returns-2 : tie.Need-returns-2
 returns-2 c =
-    let test = c .before .before in
-    let accepted = tested test in
-    let wrong = sym (test .outside .ensures) ∙ c .before .if2 .taken in
-    c .refuse2 .ensures ∙ ordinal-wrong _ _ _ _ (days accepted .days .ensures) (accepted .if1 .left) wrong
+    let accepted = no-such-ordinal (c .before) in
+    c .refuse2 .ensures ∙ no-ordinal _ _ _ (year accepted .days .ensures) (accepted .if1 .left) (c .before .if2 .taken)
 
-cast-t7 : tie.Need-cast-t7
-cast-t7 c = search needs
+cast-day : tie.Need-cast-day
+cast-day c = search needs
 
-add-t8 : tie.Need-add-t8
-add-t8 c =
-    let inside = c .before .before in
-    let accepted = tested (inside .before) in
-    let small = days-fit _ _ _ (days accepted .days .ensures) (accepted .if1 .left) in
-    omega (arith, ordinal-placed inside)
+add-day : tie.Need-add-day
+add-day c =
+    let accepted = accepted (c .before .before) in
+    day-fits _ _ _ (year accepted .days .ensures) (accepted .if1 .left) (omega arith)
 
-sub-t9 : tie.Need-sub-t9
-sub-t9 c = omega (arith, ordinal-placed (c .before .before))
+sub-day : tie.Need-sub-day
+sub-day c = search needs
 
-judge-register-day-requires : tie.Need-judge-register-day-requires
-judge-register-day-requires c κs = search needs
+judge-dated-requires : tie.Need-judge-dated-requires
+judge-dated-requires c κs = search needs
 
 returns-3 : tie.Need-returns-3
 returns-3 c =
-    let inside = c .before .before .before in
-    let accepted = tested (inside .before) in
-    let right = ordinal-right _ _ _ _ (days accepted .days .ensures) (accepted .if1 .left) (ordinal-inside inside) in
-    c .judge-register-day .ensures ∙ right
+    let some = c .before .before .before in
+    let accepted = accepted some in
+    c .judge-dated .ensures ∙ by-date _ _ _ (year accepted .days .ensures) (accepted .if1 .left) (some .if2 .left)
 
 pub judge-ordinal-spec : {M : Type 1} → statement M
 judge-ordinal-spec =
@@ -90,13 +63,10 @@ judge-ordinal-spec =
     days-requires
     refuse-requires
     returns
-    cast-outside
-    cast-outside-2
-    outside-requires
     refuse-requires-2
     returns-2
-    cast-t7
-    add-t8
-    sub-t9
-    judge-register-day-requires
+    cast-day
+    add-day
+    sub-day
+    judge-dated-requires
     returns-3)

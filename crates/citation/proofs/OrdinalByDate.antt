@@ -1,0 +1,126 @@
+-- An ordinal judged by a date: a year has it just when the day's date is of that year.
+use Prim.Native.Nat.{ℕ, _+_, _-_, _^_, _≤_, _<_}
+use mathlib.Core.Path.{_≡_, refl, subst, sym, ap, _∙_}
+use mathlib.Core.Bool.{and-false}
+use native.Mathlib.Omega.{arith}
+use borrow.Author.Tests.{eq-eqb, ne-eqb}
+use mir.Syntax.{w32}
+use mir.Val.{Fits}
+use Rattle.calendar.specs.declared.data.Constants.{Constants}
+use Rattle.calendar.specs.Systems.{constantsOf, yearsElapsed}
+use Rattle.calendar.specs.Month.{monthHead}
+use Rattle.calendar.specs.Year.{DayOfYear}
+use Rattle.calendar.specs.Consistent.{Consistent}
+use Rattle.calendar.proofs.EachSystem.{consistent}
+use Rattle.calendar.proofs.Rising.{by-order}
+use Rattle.calendar.proofs.Spans.{span-next}
+use Rattle.calendar.proofs.Laws.{months-stay-within, day-in-one-year}
+use Rattle.reckoning.specs.declared.data.Days.{Days}
+use Rattle.reckoning.specs.declared.data.Date.{Date}
+use Rattle.reckoning.specs.RefusalNumbers.{DAY}
+use Rattle.reckoning.specs.Requests.{daysOf, dateOf}
+use Rattle.reckoning.specs.Outcomes.{DaysFound, DaysOutcome, DateFound, DateOutcome}
+use Rattle.reckoning.proofs.RefusalCases.{inside, outside-of}
+use Rattle.reckoning.proofs.RequestsEnd.{days-outcome, date-outcome, year-day-in-scope}
+use Rattle.reckoning.proofs.AnswersFit.{days-fit}
+use Rattle.citation.specs.Store.{refuse, judgeRegisterDay, judgeOrdinal}
+use Rattle.citation.specs.JudgeParts.{judgeDated}
+use Rattle.citation.proofs.JudgementCases.{date-accepted, dated-refused, dated-elsewhere, dated-right, ordinal-wrong, ordinal-right}
+
+-- The days of a year that is not refused.
+days-found : (system year : ℕ) {y : Days} → y ≡ daysOf system year → y .refusal ≡ 0 → DaysFound system year y
+days-found system year {y} e z = go (subst (DaysOutcome system year) (sym e) (days-outcome system year))
+  where
+    go : DaysOutcome system year y → DaysFound system year y
+    go (DaysOutcome.system-refused w f) = absurd (omega (arith, ap (λ x. x .refusal) f))
+    go (DaysOutcome.year-refused i w f) = absurd (omega (arith, ap (λ x. x .refusal) f))
+    go (DaysOutcome.found f) = f
+
+module _ (system year ordinal : ℕ) {y : Days} (e : y ≡ daysOf system year) (z : y .refusal ≡ 0) where
+  pub day-fits : ordinal < 2 ^ 16 → Fits w32 (y .head .0 + ordinal)
+  day-fits small = omega (arith, days-fit system year y e z)
+
+  pub no-ordinal : ordinal ≡ 0 → refuse DAY ≡ judgeOrdinal system year ordinal
+  no-ordinal none =
+      ordinal-wrong system year ordinal y e z (outside-of 1 (y .length) ordinal (λ h. omega (arith, h .at-least)))
+
+  -- The day with an ordinal from 1 on.
+  module _ (some : ordinal ≡ 0 → ⊥) where
+    abbrev r : ℕ
+    r = y .head .0 + ordinal - 1
+
+    abbrev c : Constants
+    c = constantsOf system
+
+    abbrev ok : Consistent c
+    ok = consistent system
+
+    abbrev d : Date
+    d = dateOf system r
+
+    abbrev year-found : DaysFound system year y
+    year-found = days-found system year e z
+
+    least : 1 ≤ ordinal
+    least = by-order 0 ordinal (λ h. omega arith) (λ h. absurd (some (omega arith)))
+
+    -- Up to the year's length it is a day of the year,
+    of-year : ordinal ≤ y .length → DayOfYear c (yearsElapsed c year) (r + c .anchor)
+    of-year h =
+        record {
+          span = year-found .span;
+          from = omega (arith, year-found .head-is, least);
+          before = omega (arith, year-found .head-is, year-found .length-is, least);
+        }
+
+    -- and past it, it is not.
+    within-length : DayOfYear c (yearsElapsed c year) (r + c .anchor) → ordinal ≤ y .length
+    within-length day =
+        let next = ap (monthHead c) (span-next c ok (day .span) ∙ sym (span-next c ok (year-found .span))) in
+        omega (arith, day .before, year-found .head-is, year-found .length-is, least)
+
+    -- A day that has a date is one of the date's year.
+    of-its-date : DateFound system r d → DayOfYear c (yearsElapsed c (d .year)) (r + c .anchor)
+    of-its-date f =
+        months-stay-within c ok (yearsElapsed c (d .year)) (f .k) (r + c .anchor) (f .numbered .in-year) (f .in-month)
+
+    within : ordinal ≤ y .length → judgeDated system r year ≡ judgeOrdinal system year ordinal
+    within h = go (date-outcome system r)
+      where
+        right : judgeRegisterDay system r ≡ judgeOrdinal system year ordinal
+        right = ordinal-right system year ordinal y e z (inside 1 (y .length) ordinal (record { at-least = least; at-most = h }))
+
+        go : DateOutcome system r d → judgeDated system r year ≡ judgeOrdinal system year ordinal
+        go (DateOutcome.system-refused w f) = absurd (w (year-found .in-scope .system-inside))
+        go (DateOutcome.day-refused i w f) =
+            let day = of-year h in
+            absurd (w (year-day-in-scope system year r (year-found .in-scope) (day .span) (day .from) (day .before)))
+        go (DateOutcome.found f) =
+            let one = day-in-one-year c ok (r + c .anchor) in
+            let same-count = one .only (yearsElapsed c (d .year)) (of-its-date f) ∙ sym (one .only (yearsElapsed c year) (of-year h)) in
+            let same : d .year ≡ year = omega (arith, ok .epoch-before, f .in-scope .year-inside, year-found .in-scope .year-inside) in
+            sym (dated-right system r year d refl (f .not-refused) (simp (eq-eqb (d .year) year same, and-false)))
+            ∙ date-accepted system r d refl (f .not-refused)
+            ∙ right
+
+    past : y .length < ordinal → judgeDated system r year ≡ judgeOrdinal system year ordinal
+    past h = go (date-outcome system r)
+      where
+        wrong : refuse DAY ≡ judgeOrdinal system year ordinal
+        wrong = ordinal-wrong system year ordinal y e z (outside-of 1 (y .length) ordinal (λ i. omega (arith, i .at-most)))
+
+        go : DateOutcome system r d → judgeDated system r year ≡ judgeOrdinal system year ordinal
+        go (DateOutcome.system-refused w f) = absurd (w (year-found .in-scope .system-inside))
+        go (DateOutcome.day-refused i w f) =
+            let number = ap (λ x. x .refusal) f in
+            sym (dated-refused system r year d refl (λ none. omega arith)) ∙ ap refuse number ∙ wrong
+        go (DateOutcome.found f) =
+            let other : d .year ≡ year → ⊥ =
+            λ same. omega (arith, within-length (subst (λ x. DayOfYear c (yearsElapsed c x) (r + c .anchor)) same (of-its-date f)))
+            in
+            let asked : year ≡ 0 → ⊥ = λ none. omega (arith, year-found .in-scope .year-inside) in
+            sym (dated-elsewhere system r year d refl (f .not-refused) (simp (ne-eqb year 0 asked, ne-eqb (d .year) year other)))
+            ∙ wrong
+
+    pub by-date : judgeDated system r year ≡ judgeOrdinal system year ordinal
+    by-date = by-order (y .length) ordinal past within
