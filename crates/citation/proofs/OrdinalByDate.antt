@@ -6,7 +6,9 @@ use native.Mathlib.Omega.{arith}
 use borrow.Author.Tests.{eq-eqb, ne-eqb}
 use mir.Syntax.{w32}
 use mir.Val.{Fits}
+use mathlib.Core.List.{List}
 use Rattle.calendar.specs.declared.data.Constants.{Constants}
+use Rattle.calendar.specs.Inside.{Inside}
 use Rattle.calendar.specs.Systems.{constantsOf, yearsElapsed}
 use Rattle.calendar.specs.Month.{monthHead}
 use Rattle.calendar.specs.Year.{DayOfYear}
@@ -18,14 +20,18 @@ use Rattle.calendar.proofs.Laws.{months-stay-within, day-in-one-year}
 use Rattle.reckoning.specs.declared.data.Days.{Days}
 use Rattle.reckoning.specs.declared.data.Date.{Date}
 use Rattle.reckoning.specs.RefusalNumbers.{DAY}
-use Rattle.reckoning.specs.Requests.{daysOf, dateOf}
+use Rattle.reckoning.specs.Requests.{asRegisterDay, daysOf, dateOf}
 use Rattle.reckoning.specs.Outcomes.{DaysFound, DaysOutcome, DateFound, DateOutcome}
 use Rattle.reckoning.proofs.RefusalCases.{inside, outside-of}
 use Rattle.reckoning.proofs.RequestsEnd.{days-outcome, date-outcome, year-day-in-scope}
 use Rattle.reckoning.proofs.AnswersFit.{days-fit}
-use Rattle.citation.specs.Store.{refuse, judgeRegisterDay, judgeOrdinal}
-use Rattle.citation.specs.JudgeParts.{judgeDated}
-use Rattle.citation.proofs.JudgementCases.{date-accepted, dated-refused, dated-elsewhere, dated-right, ordinal-wrong, ordinal-right}
+use Rattle.citation.specs.declared.judge.Judgement.{Judgement}
+use Rattle.citation.specs.declared.judge.Named.{Named}
+use Rattle.citation.specs.Record.{kindOf, systemOf, yearField, ordinalField, registerDayField}
+use Rattle.citation.specs.Store.{refuse, judgeRegisterDay, judgeOrdinal, judgeKind}
+use Rattle.citation.specs.JudgeParts.{judgeDated, unnamed, namedIn, namedByOrdinal, namedDay, judgeNamed}
+use Rattle.citation.proofs.JudgementCases.{by-equal, date-accepted, dated-refused, dated-elsewhere, dated-right, of-any-year}
+use Rattle.citation.proofs.JudgementCases.{year-refused, ordinal-wrong, ordinal-right, kind-three, kind-four}
 
 -- The days of a year that is not refused.
 days-found : (system year : ℕ) {y : Days} → y ≡ daysOf system year → y .refusal ≡ 0 → DaysFound system year y
@@ -124,3 +130,71 @@ module _ (system year ordinal : ℕ) {y : Days} (e : y ≡ daysOf system year) (
 
     pub by-date : judgeDated system r year ≡ judgeOrdinal system year ordinal
     by-date = by-order (y .length) ordinal past within
+
+-- The day that kind 3 names, with the year's days.
+module _ (system year ordinal : ℕ) {y : Days} (e : y ≡ daysOf system year) where
+  named-here : namedIn y year ordinal ≡ namedByOrdinal system year ordinal
+  unfolding namedByOrdinal
+  named-here = ap (λ x. namedIn x year ordinal) e
+
+  pub unnamed-year : (y .refusal ≡ 0 → ⊥) → unnamed (y .refusal) ≡ namedByOrdinal system year ordinal
+  unnamed-year h = simp (ne-eqb (y .refusal) 0 h) at named-here
+
+  pub unnamed-ordinal : y .refusal ≡ 0 → ordinal ≡ 0 → unnamed DAY ≡ namedByOrdinal system year ordinal
+  unnamed-ordinal z none = simp (eq-eqb (y .refusal) 0 z, eq-eqb ordinal 0 none) at named-here
+
+  pub named-ordinal : y .refusal ≡ 0 → (ordinal ≡ 0 → ⊥)
+      → record { refusal = 0; day = asRegisterDay (y .head .0 + ordinal - 1); year = year } ≡ namedByOrdinal system year ordinal
+  named-ordinal z some = simp (eq-eqb (y .refusal) 0 z, ne-eqb ordinal 0 some) at named-here
+
+-- Kind 3, by the day that it names.
+pub ordinal-named : (system year ordinal : ℕ) → judgeNamed system (namedByOrdinal system year ordinal) ≡ judgeOrdinal system year ordinal
+unfolding namedByOrdinal
+ordinal-named system year ordinal =
+    let y = daysOf system year in
+    by-equal (y .refusal) 0
+    (λ z.
+    by-equal ordinal 0
+    (λ none. simp (eq-eqb (y .refusal) 0 z, eq-eqb ordinal 0 none) (no-ordinal system year ordinal refl z none))
+    (λ some. simp (eq-eqb (y .refusal) 0 z, ne-eqb ordinal 0 some) (by-date system year ordinal refl z some)))
+    (λ refused. simp (ne-eqb (y .refusal) 0 refused) (year-refused system year ordinal y refl refused))
+
+-- Kinds 3 and 4 are judged by the day that they name.
+pub named-judged : (s : List ℕ) → Inside 3 4 (kindOf s) → judgeNamed (systemOf s) (namedDay s) ≡ judgeKind s
+unfolding namedDay
+named-judged s k =
+    by-equal (kindOf s) 3
+    (λ three.
+    simp (eq-eqb (kindOf s) 3 three)
+    (kind-three s refl three (ordinal-named (systemOf s) (yearField s) (ordinalField s)) refl refl))
+    (λ other.
+    simp (ne-eqb (kindOf s) 3 other)
+    (kind-four s refl (by-order (kindOf s) 4 (λ l. absurd (other (omega (arith, k)))) (λ l. omega (arith, k))) (of-any-year (systemOf s) (registerDayField s)) refl))
+
+-- What was read of the fields, for both kinds.
+module _ (s : List ℕ) where
+  pub kind-three-named : {n : Named} {system year ordinal : ℕ} → kindOf s ≡ 3 → n ≡ namedByOrdinal system year ordinal
+      → system ≡ systemOf s
+      → year ≡ yearField s
+      → ordinal ≡ ordinalField s
+      → n ≡ namedDay s
+  unfolding namedDay
+  kind-three-named k e system year ordinal =
+      e ∙ (λ i. namedByOrdinal (system i) (year i) (ordinal i)) ∙ simp (eq-eqb (kindOf s) 3 k)
+
+  pub kind-four-named : {r : ℕ} → (kindOf s ≡ 3 → ⊥) → r ≡ registerDayField s
+      → record { refusal = 0; day = asRegisterDay r; year = 0 } ≡ namedDay s
+  unfolding namedDay
+  kind-four-named k r = (λ i. record { refusal = 0; day = asRegisterDay (r i); year = 0 }) ∙ simp (ne-eqb (kindOf s) 3 k)
+
+  module _ {n : Named} (k : Inside 3 4 (kindOf s)) (named : n ≡ namedDay s) where
+    judged : judgeNamed (systemOf s) n ≡ judgeKind s
+    judged = ap (judgeNamed (systemOf s)) named ∙ named-judged s k
+
+    pub named-refused : {j : Judgement} → (n .refusal ≡ 0 → ⊥) → j ≡ refuse (n .refusal) → j ≡ judgeKind s
+    named-refused h e = e ∙ simp (ne-eqb (n .refusal) 0 h) at judged
+
+    pub named-accepted : {j : Judgement} {system : ℕ} → system ≡ systemOf s → n .refusal ≡ 0
+        → j ≡ judgeDated system (n .day .0) (n .year)
+        → j ≡ judgeKind s
+    named-accepted system h e = e ∙ ap (λ x. judgeDated x (n .day .0) (n .year)) system ∙ simp (eq-eqb (n .refusal) 0 h) at judged

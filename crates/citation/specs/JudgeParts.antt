@@ -1,15 +1,18 @@
--- What the parts of the judgement are handed, and what one of them gives that two kinds share.
+-- What the parts of the judgement are handed, and what those give that two kinds share.
 use Prim.Native.Nat.{ℕ, _+_, _-_, _≤_, _<_}
 use mathlib.Core.Path.{_≡_}
-use mathlib.Core.Bool.{Bool, not, _&&_}
+use mathlib.Core.Bool.{Bool, cond, not, _&&_}
 use mathlib.Core.List.{List}
 use lib.Dec.{eqb}
 use lib.ListN.{length}
 use Rattle.calendar.specs.Inside.{Inside}
 use Rattle.reckoning.specs.declared.data.Month.{Month}
-use Rattle.reckoning.specs.Requests.{monthOf, dateOf}
+use Rattle.reckoning.specs.declared.data.Days.{Days}
+use Rattle.reckoning.specs.RefusalNumbers.{DAY}
+use Rattle.reckoning.specs.Requests.{asRegisterDay, daysOf, monthOf, dateOf}
 use Rattle.citation.specs.declared.judge.Judgement.{Judgement}
-use Rattle.citation.specs.Record.{kindOf}
+use Rattle.citation.specs.declared.judge.Named.{Named}
+use Rattle.citation.specs.Record.{kindOf, systemOf, yearField, ordinalField, registerDayField}
 use Rattle.citation.specs.Store.{accept, unlessRefused, unlessWrong}
 
 -- Numbers that fit the fields of a kind 1 record.
@@ -42,3 +45,27 @@ judgeDated system r asked =
     let d = dateOf system r in
     unlessRefused (d .refusal)
     (unlessWrong (ofAnotherYear (d .year) asked) (accept r system (d .year) (d .month) (d .leap) (d .day)))
+
+-- The day of kinds 3 and 4 and the year that it has to be dated in, or the refusal.
+abbrev pub unnamed : ℕ → Named
+unnamed refusal = record { refusal = refusal; day = asRegisterDay 0; year = 0 }
+
+abbrev pub namedIn : Days → ℕ → ℕ → Named
+namedIn y year ordinal =
+    cond (eqb (y .refusal) 0)
+    (cond (eqb ordinal 0)
+    (unnamed DAY)
+    (record { refusal = 0; day = asRegisterDay (y .head .0 + ordinal - 1); year = year }))
+    (unnamed (y .refusal))
+
+unfoldable pub namedByOrdinal : ℕ → ℕ → ℕ → Named
+namedByOrdinal system year ordinal = namedIn (daysOf system year) year ordinal
+
+unfoldable pub namedDay : List ℕ → Named
+namedDay s =
+    cond (eqb (kindOf s) 3)
+    (namedByOrdinal (systemOf s) (yearField s) (ordinalField s))
+    (record { refusal = 0; day = asRegisterDay (registerDayField s); year = 0 })
+
+abbrev pub judgeNamed : ℕ → Named → Judgement
+judgeNamed system n = unlessRefused (n .refusal) (judgeDated system (n .day .0) (n .year))

@@ -2,9 +2,9 @@
 ghost use mathlib.Core.Path.{_≡_};
 ghost use Prim.Native.Nat.{_≤_, _<_};
 ghost use lib.ListN.{length};
-ghost use Rattle.citation.specs.Store.{refuse, accept, judgeOrdinal, judgeDay, judgeName, lengthRight, judgeKind, judgeOf};
-ghost use Rattle.citation.specs.Record.{kindOf, kindLength};
-ghost use Rattle.citation.specs.JudgeParts.{Fields, Whole, Found, ofAnotherYear, judgeDated};
+ghost use Rattle.citation.specs.Store.{refuse, accept, judgeDay, judgeName, lengthRight, judgeKind, judgeOf};
+ghost use Rattle.citation.specs.Record.{kindOf, systemOf, kindLength};
+ghost use Rattle.citation.specs.JudgeParts.{Fields, Whole, Found, ofAnotherYear, judgeDated, unnamed, namedByOrdinal, namedDay};
 use calendar::data::DayName;
 use calendar::data::Ordinal;
 use calendar::data::RegisterDay;
@@ -86,21 +86,57 @@ fn judge_dated(system: u32, day: RegisterDay, year: u32) -> Judgement
     )
 }
 
+// The day that a citation names, or why there is none; and the year that it has to be dated in, 0 for any.
+struct Named {
+    refusal: u8,
+    day: RegisterDay,
+    year: u32,
+}
+
+fn unnamed(refusal: u8) -> Named
+    ensures { λ r. ⌜ r ≡ unnamed refusal ⌝ }
+{
+    Named {
+        refusal: refusal,
+        day: RegisterDay(0),
+        year: 0,
+    }
+}
+
 // Kind 3. Past the year's end a day is dated in another year, or not at all, so that the head of the year after need not
 // be reckoned.
-fn judge_ordinal(system: u32, year: u32, ordinal: Ordinal) -> Judgement
-    requires { ⌜ system < 256 ⌝ }
-    ensures { λ r. ⌜ r ≡ judgeOrdinal system year (ordinal .0) ⌝ }
+fn named_by_ordinal(system: u32, year: u32, ordinal: Ordinal) -> Named
+    ensures { λ r. ⌜ r ≡ namedByOrdinal system year (ordinal .0) ⌝ }
 {
     let y = reckoning::days(system, year);
     if y.refusal != 0 {
-        return refuse(y.refusal);
+        return unnamed(y.refusal);
     }
     if ordinal.0 == 0 {
-        return refuse(DAY);
+        return unnamed(DAY);
     }
     let day = y.head.0 + ordinal.0 as u32 - 1;
-    judge_dated(system, RegisterDay(day), year)
+    Named {
+        refusal: 0,
+        day: RegisterDay(day),
+        year: year,
+    }
+}
+
+// Kinds 3 and 4.
+fn named_day(s: &[u8], kind: u32, system: u32) -> Named
+    requires { ⌜ Whole (now s) kind × (system ≡ systemOf (now s)) ⌝ }
+    ensures { λ r. ⌜ r ≡ namedDay (now (s .entry)) ⌝ }
+{
+    if kind == 3 {
+        let year = le16(s[5], s[6]);
+        return named_by_ordinal(system, year, Ordinal(le16(s[7], s[8]) as u16));
+    }
+    Named {
+        refusal: 0,
+        day: RegisterDay(le32(s[5], s[6], s[7], s[8])),
+        year: 0,
+    }
 }
 
 // Kind 1, in its month.
@@ -148,11 +184,11 @@ fn judge_kind(s: &[u8], kind: u32) -> Judgement
         }
         return judge_name(m, system, year, month, leap, DayName(s[9]));
     }
-    if kind == 3 {
-        let year = le16(s[5], s[6]);
-        return judge_ordinal(system, year, Ordinal(le16(s[7], s[8]) as u16));
+    let named = named_day(s, kind, system);
+    if named.refusal != 0 {
+        return refuse(named.refusal);
     }
-    judge_dated(system, RegisterDay(le32(s[5], s[6], s[7], s[8])), 0)
+    judge_dated(system, named.day, named.year)
 }
 
 // Bytes in a record of a kind.

@@ -1,7 +1,8 @@
-use mathlib.Core.Path.{refl, _∙_}
+use mathlib.Core.Path.{refl}
 use native.Mathlib.Omega.{arith}
 use Rattle.citation.specs.JudgeParts.{Whole}
-use Rattle.citation.proofs.JudgementCases.{of-any-year, kind-one-or-two, kind-one, kind-two, kind-three, kind-four}
+use Rattle.citation.proofs.JudgementCases.{kind-one-or-two, kind-one, kind-two}
+use Rattle.citation.proofs.OrdinalByDate.{named-refused, named-accepted}
 use borrow.Author.Needs.{needs}
 use Rattle.citation.proofs.judge.judge_kind.Statement.{statement}
 use Rattle.citation.proofs.judge.judge_kind.Tie as tie
@@ -85,53 +86,22 @@ judge-name-requires c κs = search needs
 returns-3 : tie.Need-returns-3
 returns-3 c = kind-two _ (omega arith) (omega arith) (c .judge-name .ensures) (omega arith) (omega arith) (omega arith) refl
 
-shared-slice-read-le16-3 : tie.Need-shared-slice-read-le16-3
-shared-slice-read-le16-3 c = search needs
+named-day-requires : tie.Need-named-day-requires
+named-day-requires c κs = search needs
 
-shared-slice-read-le16-4 : tie.Need-shared-slice-read-le16-4
-shared-slice-read-le16-4 c = search needs
-
-le16-requires-2 : tie.Need-le16-requires-2
-le16-requires-2 c κs = search needs
-
-shared-slice-read-le16-5 : tie.Need-shared-slice-read-le16-5
-shared-slice-read-le16-5 c = search needs
-
-shared-slice-read-le16-6 : tie.Need-shared-slice-read-le16-6
-shared-slice-read-le16-6 c = search needs
-
-le16-requires-3 : tie.Need-le16-requires-3
-le16-requires-3 c κs = search needs
-
-cast-t31 : tie.Need-cast-t31
-cast-t31 c = search needs
-
-judge-ordinal-requires : tie.Need-judge-ordinal-requires
-judge-ordinal-requires c κs = search needs
+refuse-requires-2 : tie.Need-refuse-requires-2
+refuse-requires-2 c κs = search needs
 
 returns-4 : tie.Need-returns-4
-returns-4 c = kind-three _ (omega arith) (omega arith) (c .judge-ordinal .ensures) (omega arith) (omega arith)
-
-shared-slice-read-le32 : tie.Need-shared-slice-read-le32
-shared-slice-read-le32 c = search needs
-
-shared-slice-read-le32-2 : tie.Need-shared-slice-read-le32-2
-shared-slice-read-le32-2 c = search needs
-
-shared-slice-read-le32-3 : tie.Need-shared-slice-read-le32-3
-shared-slice-read-le32-3 c = search needs
-
-shared-slice-read-le32-4 : tie.Need-shared-slice-read-le32-4
-shared-slice-read-le32-4 c = search needs
-
-le32-requires : tie.Need-le32-requires
-le32-requires c κs = search needs
+returns-4 c =
+    named-refused _ (omega arith) (c .before .before .before .named-day .ensures) (c .before .if4 .taken) (c .refuse2 .ensures)
 
 judge-dated-requires : tie.Need-judge-dated-requires
 judge-dated-requires c κs = search needs
 
 returns-5 : tie.Need-returns-5
-returns-5 c = kind-four _ (omega arith) (omega arith) (c .judge-dated .ensures ∙ of-any-year _ _) (omega arith)
+returns-5 c =
+    named-accepted _ (omega arith) (c .before .before .before .named-day .ensures) (omega arith) (c .before .if4 .left) (c .judge-dated .ensures)
 
 pub judge-kind-spec : {M : Type 1} → statement M
 judge-kind-spec =
@@ -156,19 +126,8 @@ judge-kind-spec =
     shared-slice-read-t13
     judge-name-requires
     returns-3
-    shared-slice-read-le16-3
-    shared-slice-read-le16-4
-    le16-requires-2
-    shared-slice-read-le16-5
-    shared-slice-read-le16-6
-    le16-requires-3
-    cast-t31
-    judge-ordinal-requires
+    named-day-requires
+    refuse-requires-2
     returns-4
-    shared-slice-read-le32
-    shared-slice-read-le32-2
-    shared-slice-read-le32-3
-    shared-slice-read-le32-4
-    le32-requires
     judge-dated-requires
     returns-5)
