@@ -73,13 +73,13 @@ fn judge_dated(system: u32, day: RegisterDay, year: u32) -> Judgement
     if d.refusal != 0 {
         return refuse(d.refusal);
     }
-    if of_another_year(d.year as u32, year) {
+    if of_another_year(d.year, year) {
         return refuse(DAY);
     }
     accept(
         day.0,
         system,
-        d.year as u32,
+        d.year,
         d.month as u32,
         d.leap as u32,
         d.day as u32,

@@ -1,4 +1,4 @@
--- Answers leave room in 32 bits for the days that follow a head.
+-- Answers fit: heads leave room in 32 bits for the days that follow, and a year its two bytes.
 use Prim.Native.Nat.{ℕ, _^_, _≤_, _<_}
 use mathlib.Core.Path.{_≡_, subst, ap, sym}
 use native.Mathlib.Omega.{arith}
@@ -10,11 +10,12 @@ use Rattle.calendar.proofs.Spans.{span-first, within}
 use Rattle.calendar.proofs.Laws.{year-length-most}
 use Rattle.reckoning.specs.declared.data.Month.{Month}
 use Rattle.reckoning.specs.declared.data.Days.{Days}
-use Rattle.reckoning.specs.Requests.{daysOf, monthOf}
-use Rattle.reckoning.specs.Outcomes.{DaysOutcome, MonthOutcome}
+use Rattle.reckoning.specs.declared.data.Date.{Date}
+use Rattle.reckoning.specs.Requests.{daysOf, monthOf, dateOf}
+use Rattle.reckoning.specs.Outcomes.{DaysOutcome, MonthOutcome, DateOutcome}
 use Rattle.reckoning.proofs.ScopeInRegister.{year-in-register}
 use Rattle.reckoning.proofs.RegisterLaws.{first-head}
-use Rattle.reckoning.proofs.RequestsEnd.{days-outcome, month-outcome}
+use Rattle.reckoning.proofs.RequestsEnd.{days-outcome, month-outcome, date-outcome}
 
 pub record MonthFits (v : Month) : Type 0 where
   pub head-small : v .head .0 < 2 ^ 31
@@ -54,3 +55,12 @@ days-fit system year v e z = go (subst (DaysOutcome system year) (sym e) (days-o
           head-small = omega (arith, head, ap (monthHead c) (span-first c ok (y .span)));
           length-most = omega (arith, year-length-most c ok (y .span));
         }
+
+-- A date's year fits two bytes.
+pub date-fits : (system r : ℕ) {v : Date} → v ≡ dateOf system r → v .refusal ≡ 0 → v .year < 2 ^ 16
+date-fits system r {v} e z = go (subst (DateOutcome system r) (sym e) (date-outcome system r))
+  where
+    go : DateOutcome system r v → v .year < 2 ^ 16
+    go (DateOutcome.system-refused w f) = absurd (omega (arith, ap (λ d. d .refusal) f))
+    go (DateOutcome.day-refused i w f) = absurd (omega (arith, ap (λ d. d .refusal) f))
+    go (DateOutcome.found f) = omega (arith, f .in-scope .year-inside)

@@ -49,7 +49,7 @@ pub struct Days {
 // A day by year, month number, leap mark and day of the month.
 pub struct Date {
     pub refusal: u8,
-    pub year: u16,
+    pub year: u32,
     pub month: u8,
     pub leap: u8,
     pub day: u8,

@@ -39,7 +39,7 @@ pub(crate) fn of_day(c: Constants, day: RegisterDay) -> Date
     let place = (d - m.head + 1) as u8;
     Date {
         refusal: 0,
-        year: (year - c.elapsed) as u16,
+        year: (year - c.elapsed) as u32,
         month: number_of_qi(last.qi),
         leap: last.leap,
         day: place,

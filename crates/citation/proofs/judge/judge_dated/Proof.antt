@@ -1,4 +1,6 @@
 use mathlib.Core.Path.{sym, _∙_}
+use native.Mathlib.Omega.{arith}
+use Rattle.reckoning.proofs.AnswersFit.{date-fits}
 use Rattle.citation.proofs.JudgementCases.{dated-refused, dated-elsewhere, dated-right}
 use borrow.Author.Needs.{needs}
 use Rattle.citation.proofs.judge.judge_dated.Statement.{statement}
@@ -12,10 +14,10 @@ abbrev date : tie.Else1 → tie.After-date
 date c = c .before .before
 
 abbrev tested : tie.After-of-another-year → tie.Else1
-tested c = c .before .before
+tested c = c .before
 
-abbrev last : tie.After-accept → tie.Else2
-last c = c .before .before .before .before .before
+abbrev parts-read : tie.After-struct-known4 → tie.Else2
+parts-read c = c .before .before .before
 
 date-requires : tie.Need-date-requires
 date-requires c κs = search needs
@@ -25,9 +27,6 @@ refuse-requires c κs = search needs
 
 returns : tie.Need-returns
 returns c = c .refuse .ensures ∙ dated-refused _ _ _ _ (no-date (c .before) .date .ensures) (c .before .if1 .taken)
-
-cast-of-another-year : tie.Need-cast-of-another-year
-cast-of-another-year c = search needs
 
 of-another-year-requires : tie.Need-of-another-year-requires
 of-another-year-requires c κs = search needs
@@ -50,15 +49,15 @@ cast-accept-2 c = search needs
 cast-accept-3 : tie.Need-cast-accept-3
 cast-accept-3 c = search needs
 
-cast-accept-4 : tie.Need-cast-accept-4
-cast-accept-4 c = search needs
-
 accept-requires : tie.Need-accept-requires
-accept-requires c κs = search needs
+accept-requires c κs =
+    let test = parts-read c .before in
+    let small = date-fits _ _ (date (tested test) .date .ensures) (tested test .if1 .left) in
+    omega arith
 
 returns-3 : tie.Need-returns-3
 returns-3 c =
-    let here = last c in
+    let here = parts-read (c .before) in
     let test = here .before in
     let right = sym (test .of-another-year .ensures) ∙ here .if2 .left in
     c .accept .ensures ∙ dated-right _ _ _ _ (date (tested test) .date .ensures) (tested test .if1 .left) right
@@ -70,13 +69,11 @@ judge-dated-spec =
     date-requires
     refuse-requires
     returns
-    cast-of-another-year
     of-another-year-requires
     refuse-requires-2
     returns-2
     cast-accept
     cast-accept-2
     cast-accept-3
-    cast-accept-4
     accept-requires
     returns-3)
