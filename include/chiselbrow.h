@@ -153,8 +153,11 @@
 #include <stdint.h>
 
 /* The version of this header and its library. The first number, which is also
- * that of the soname, rises when hosts have to be built anew. */
-#define CHISELBROW_VERSION "1.0.0"
+ * that of the soname, rises when hosts have to be built anew, and the second
+ * when a rule of the calendar changes: a record that an earlier version stored
+ * can then name another day or none, and has to be stored anew, from the
+ * register day that was answered with it. */
+#define CHISELBROW_VERSION "1.1.0"
 
 #ifdef __cplusplus
 extern "C" {
