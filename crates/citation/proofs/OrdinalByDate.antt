@@ -144,7 +144,7 @@ module _ (system year ordinal : ℕ) {y : Days} (e : y ≡ daysOf system year) w
   unnamed-ordinal z none = simp (eq-eqb (y .refusal) 0 z, eq-eqb ordinal 0 none) at named-here
 
   pub named-ordinal : y .refusal ≡ 0 → (ordinal ≡ 0 → ⊥)
-      → record { refusal = 0; day = asRegisterDay (y .head .0 + ordinal - 1); year = year } ≡ namedByOrdinal system year ordinal
+      → record { refusal = 0; day = asRegisterDay (y .head .0 + ordinal - 1); asked = year } ≡ namedByOrdinal system year ordinal
   named-ordinal z some = simp (eq-eqb (y .refusal) 0 z, ne-eqb ordinal 0 some) at named-here
 
 -- Kind 3, by the day that it names.
@@ -183,9 +183,9 @@ module _ (s : List ℕ) where
       e ∙ (λ i. namedByOrdinal (system i) (year i) (ordinal i)) ∙ simp (eq-eqb (kindOf s) 3 k)
 
   pub kind-four-named : {r : ℕ} → (kindOf s ≡ 3 → ⊥) → r ≡ registerDayField s
-      → record { refusal = 0; day = asRegisterDay r; year = 0 } ≡ namedDay s
+      → record { refusal = 0; day = asRegisterDay r; asked = 0 } ≡ namedDay s
   unfolding namedDay
-  kind-four-named k r = (λ i. record { refusal = 0; day = asRegisterDay (r i); year = 0 }) ∙ simp (ne-eqb (kindOf s) 3 k)
+  kind-four-named k r = (λ i. record { refusal = 0; day = asRegisterDay (r i); asked = 0 }) ∙ simp (ne-eqb (kindOf s) 3 k)
 
   module _ {n : Named} (k : Inside 3 4 (kindOf s)) (named : n ≡ namedDay s) where
     judged : judgeNamed (systemOf s) n ≡ judgeKind s
@@ -195,6 +195,6 @@ module _ (s : List ℕ) where
     named-refused h e = e ∙ simp (ne-eqb (n .refusal) 0 h) at judged
 
     pub named-accepted : {j : Judgement} {system : ℕ} → system ≡ systemOf s → n .refusal ≡ 0
-        → j ≡ judgeDated system (n .day .0) (n .year)
+        → j ≡ judgeDated system (n .day .0) (n .asked)
         → j ≡ judgeKind s
-    named-accepted system h e = e ∙ ap (λ x. judgeDated x (n .day .0) (n .year)) system ∙ simp (eq-eqb (n .refusal) 0 h) at judged
+    named-accepted system h e = e ∙ ap (λ x. judgeDated x (n .day .0) (n .asked)) system ∙ simp (eq-eqb (n .refusal) 0 h) at judged

@@ -35,7 +35,7 @@ pub record Found (m : Month) (system year month leap : ℕ) : Type 0 where
   pub is-month : m ≡ monthOf system year month leap
   pub not-refused : m .refusal ≡ 0
 
--- A date's year is not the year that is asked for, where one is: 0 asks for none.
+-- A date's year is not the year asked for; 0 asks for none.
 abbrev pub ofAnotherYear : ℕ → ℕ → Bool
 ofAnotherYear year asked = not (eqb asked 0) && not (eqb year asked)
 
@@ -46,16 +46,16 @@ judgeDated system r asked =
     unlessRefused (d .refusal)
     (unlessWrong (ofAnotherYear (d .year) asked) (accept r system (d .year) (d .month) (d .leap) (d .day)))
 
--- The day of kinds 3 and 4 and the year that it has to be dated in, or the refusal.
+-- The day that a citation of kind 3 or 4 names, or why there is none; and the year asked for.
 abbrev pub unnamed : ℕ → Named
-unnamed refusal = record { refusal = refusal; day = asRegisterDay 0; year = 0 }
+unnamed refusal = record { refusal = refusal; day = asRegisterDay 0; asked = 0 }
 
 abbrev pub namedIn : Days → ℕ → ℕ → Named
 namedIn y year ordinal =
     cond (eqb (y .refusal) 0)
     (cond (eqb ordinal 0)
     (unnamed DAY)
-    (record { refusal = 0; day = asRegisterDay (y .head .0 + ordinal - 1); year = year }))
+    (record { refusal = 0; day = asRegisterDay (y .head .0 + ordinal - 1); asked = year }))
     (unnamed (y .refusal))
 
 unfoldable pub namedByOrdinal : ℕ → ℕ → ℕ → Named
@@ -65,7 +65,8 @@ unfoldable pub namedDay : List ℕ → Named
 namedDay s =
     cond (eqb (kindOf s) 3)
     (namedByOrdinal (systemOf s) (yearField s) (ordinalField s))
-    (record { refusal = 0; day = asRegisterDay (registerDayField s); year = 0 })
+    (record { refusal = 0; day = asRegisterDay (registerDayField s); asked = 0 })
 
+-- Kinds 3 and 4.
 abbrev pub judgeNamed : ℕ → Named → Judgement
-judgeNamed system n = unlessRefused (n .refusal) (judgeDated system (n .day .0) (n .year))
+judgeNamed system n = unlessRefused (n .refusal) (judgeDated system (n .day .0) (n .asked))

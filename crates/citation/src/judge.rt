@@ -57,23 +57,23 @@ fn accept(r: u32, system: u32, year: u32, month: u32, leap: u32, day: u32) -> Ju
     }
 }
 
-// A date's year is not the year that is asked for, where one is: 0 asks for none.
+// A date's year is not the year asked for; 0 asks for none.
 fn of_another_year(year: u32, asked: u32) -> bool
     ensures { λ r. ⌜ r ≡ ofAnotherYear year asked ⌝ }
 {
     asked != 0 && year != asked
 }
 
-// A register day, stored by its date.
-fn judge_dated(system: u32, day: RegisterDay, year: u32) -> Judgement
+// A register day, stored by its date; refused DAY where that is of another year than asked for.
+fn judge_dated(system: u32, day: RegisterDay, asked: u32) -> Judgement
     requires { ⌜ system < 256 ⌝ }
-    ensures { λ r. ⌜ r ≡ judgeDated system (day .0) year ⌝ }
+    ensures { λ r. ⌜ r ≡ judgeDated system (day .0) asked ⌝ }
 {
     let d = reckoning::date(system, day);
     if d.refusal != 0 {
         return refuse(d.refusal);
     }
-    if of_another_year(d.year, year) {
+    if of_another_year(d.year, asked) {
         return refuse(DAY);
     }
     accept(
@@ -86,11 +86,11 @@ fn judge_dated(system: u32, day: RegisterDay, year: u32) -> Judgement
     )
 }
 
-// The day that a citation names, or why there is none; and the year that it has to be dated in, 0 for any.
+// The day that a citation of kind 3 or 4 names, or why there is none; and the year asked for.
 struct Named {
     refusal: u8,
     day: RegisterDay,
-    year: u32,
+    asked: u32,
 }
 
 fn unnamed(refusal: u8) -> Named
@@ -99,7 +99,7 @@ fn unnamed(refusal: u8) -> Named
     Named {
         refusal: refusal,
         day: RegisterDay(0),
-        year: 0,
+        asked: 0,
     }
 }
 
@@ -119,7 +119,7 @@ fn named_by_ordinal(system: u32, year: u32, ordinal: Ordinal) -> Named
     Named {
         refusal: 0,
         day: RegisterDay(day),
-        year: year,
+        asked: year,
     }
 }
 
@@ -135,7 +135,7 @@ fn named_day(s: &[u8], kind: u32, system: u32) -> Named
     Named {
         refusal: 0,
         day: RegisterDay(le32(s[5], s[6], s[7], s[8])),
-        year: 0,
+        asked: 0,
     }
 }
 
@@ -165,7 +165,8 @@ fn judge_name(m: Month, system: u32, year: u32, month: u32, leap: u32, name: Day
     accept(m.head.0 + days, system, year, month, leap, days + 1)
 }
 
-// A record whose kind and length are right.
+// A record whose kind and length are right. A month and a date are each asked for at one place: the compiler copies
+// requests of their size only into the one place that calls them.
 fn judge_kind(s: &[u8], kind: u32) -> Judgement
     requires { ⌜ Whole (now s) kind ⌝ }
     ensures { λ r. ⌜ r ≡ judgeKind (now (s .entry)) ⌝ }
@@ -188,7 +189,7 @@ fn judge_kind(s: &[u8], kind: u32) -> Judgement
     if named.refusal != 0 {
         return refuse(named.refusal);
     }
-    judge_dated(system, named.day, named.year)
+    judge_dated(system, named.day, named.asked)
 }
 
 // Bytes in a record of a kind.
