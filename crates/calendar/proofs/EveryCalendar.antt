@@ -1,7 +1,6 @@
 -- What holds in every calendar: its months, years and middle qi.
 use Prim.Native.Nat.{ℕ, zero, suc, _+_, _*_, _-_, _/_, _%_, _≤_, _<_}
 use mathlib.Core.Path.{_≡_, subst, ap}
-use native.Mathlib.Nat.{zero-add}
 use native.Mathlib.Decide.{ℕ-discrete}
 use native.Mathlib.Omega.{arith}
 use Rattle.calendar.specs.ExactlyOne.{ExactlyOne}
@@ -79,11 +78,6 @@ module _ (K : Calendar) where
 
   pub behind-most : (k : ℕ) → behind K k ≤ 1
   behind-most k = omega (arith, K .qi-before k, qi-step-most (K .qiOfMonth k))
-
-  pub qi-of-month-most : (k : ℕ) → K .qiOfMonth k ≤ k
-  qi-of-month-most k =
-      let g = K .qiOfMonth k in
-      omega (arith, rises-by (K .monthOfQi) (K .qi-rises) g 0, K .qi-from k, ap (K .monthOfQi) (zero-add g))
 
   -- a month that holds none has the last middle qi of the month before
   pub qi-of-lacking : (k : ℕ) → (Held K (k + 1) → ⊥) → K .qiOfMonth (k + 1) ≡ K .qiOfMonth k

@@ -6,7 +6,8 @@ use lib.Dec.{ltb}
 use Rattle.calendar.specs.declared.data.Constants.{Constants}
 use Rattle.calendar.specs.Month.{monthHead, numberOf}
 
--- The month that has day d: the last whose head is d or earlier. k M / D ≤ d just when k M ≤ (d + 1) D - 1.
+-- The month that has day d: the last whose head is d or earlier. With lunar parts, k M / D ≤ d just when
+-- k M ≤ (d + 1) D - 1.
 abbrev pub monthOfDay : Constants → ℕ → ℕ
 monthOfDay c d = ((d + 1) * c .lunar - 1) / c .month
 
@@ -18,7 +19,7 @@ dayOfQi c g = g * c .year / (12 * c .solar)
 abbrev pub monthOfQi : Constants → ℕ → ℕ
 monthOfQi c g = monthOfDay c (dayOfQi c g)
 
--- The last middle qi on a day before d: g Y / (12 D) < d just when g Y ≤ d (12 D) - 1.
+-- The last middle qi on a day before d. With solar parts, g Y / (12 D) < d just when g Y ≤ d (12 D) - 1.
 abbrev pub qiBefore : Constants → ℕ → ℕ
 qiBefore c d = (d * (12 * c .solar) - 1) / c .year
 

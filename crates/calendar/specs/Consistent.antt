@@ -16,11 +16,11 @@ pub record Consistent (c : Constants) : Type 0 where
   pub months-most : 13 * c .month ≤ 384 * c .lunar
   -- 30 days at least from one middle qi to the next, as long as any month: no month holds two
   pub year-least : 360 * c .solar ≤ c .year
-  -- 383 days at most from a middle qi to the twelfth after it, no longer than any thirteen months: they take no more
+  -- 383 days at most from a middle qi to the twelfth after it, as short as any thirteen months: no year has fourteen
   pub year-most : c .year ≤ 383 * c .solar
   -- 24 divides the small units of a year: no qi is rounded
   pub steps-close : 24 * step c 24 ≡ c .year * c .units
   -- the name of count day 0 puts the names of register days on (r + 49) % 60
   pub names-agree : (c .anchor + c .name) % 60 ≡ 49
-  -- years are counted from an epoch before common year 1
+  -- years are counted from an epoch before common year 1: the years elapsed rise by one a year
   pub epoch-before : c .common ≤ c .elapsed

@@ -1,4 +1,5 @@
--- The reckoning of paper 01. The first five files render its rules in its order, to be checked against it by reading.
+-- The reckoning of paper 01, with the rules of paper 02. The first five files render them in the order of paper 01, to
+-- be checked against both by reading.
 -- The words of this trade are in docs/TERMS.md, and how to read this notation is in docs/READING.md.
 -- The constants of both systems, years elapsed, register days.
 pub mod Systems

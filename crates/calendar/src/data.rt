@@ -7,9 +7,10 @@ pub struct DayName(pub u8);
 // The place of a day in its year, from 1.
 pub struct Ordinal(pub u16);
 
-// What differs between two systems. Paper 01, "Constants", a field a row.
+// What differs between two systems. Paper 01, "Constants", in the order of its rows.
 pub struct Constants {
-    // Parts in a day, D, of the year and of the month: no rule sets solar parts against lunar ones.
+    // Parts in a day, D: of those in which the year is counted, and of those in which the month is. No rule compares the
+    // two.
     pub solar: u64,
     pub lunar: u64,
     // Parts in a year, Y.

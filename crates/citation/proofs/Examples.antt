@@ -20,7 +20,8 @@ pub data Question : Type 0 where
   -- how many parts a year's first new moon stands before the solstice, where solar and lunar parts are one; its day,
   -- name and remainder
   FirstMoon : ℕ → ℕ → Question
-  -- the day of a qi; how many days and how many parts it falls before the new moon of a month by its place from 1
+  -- the day of a qi; how many days and how many parts it falls before the new moon of a month by its place from 1, where
+  -- solar and lunar parts are one
   Qi : ℕ → ℕ → ℕ → Question
   BeforeMoon : ℕ → ℕ → ℕ → ℕ → Question
   -- a year's head, months and days

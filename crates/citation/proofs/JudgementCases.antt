@@ -15,7 +15,7 @@ use Rattle.citation.specs.Record.{lengthField, kindOf, systemOf, kindLen
 use Rattle.citation.specs.Record.{yearField, monthField, leapField, dayField, nameField, ordinalField, registerDayField}
 use Rattle.citation.specs.JudgeParts.{Whole, ofAnotherYear, judgeDated}
 use Rattle.citation.specs.CitationRefusals.{WrongLength}
-use lib.Dec.{ltb, leb, eqb}
+use lib.Dec.{eqb}
 use borrow.Author.Tests.{eq-eqb, ne-eqb, lt-ltb, le-ltb, le-leb, lt-leb}
 use Rattle.reckoning.specs.ComputedRefusals.{outside}
 use Rattle.reckoning.specs.declared.data.Month.{Month}

@@ -25,5 +25,5 @@ pub mod Canonical
 pub mod KindOne
 -- The three demands: the summary.
 pub mod Demands
--- The proved examples of paper 01.
+-- The proved examples of papers 01 and 02.
 pub mod Examples

@@ -28,8 +28,8 @@ use Rattle.reckoning.proofs.AnswersFit.{days-fit}
 use Rattle.citation.specs.declared.judge.Judgement.{Judgement}
 use Rattle.citation.specs.declared.judge.Named.{Named}
 use Rattle.citation.specs.Record.{kindOf, systemOf, yearField, ordinalField, registerDayField}
-use Rattle.citation.specs.Store.{refuse, judgeRegisterDay, judgeOrdinal, judgeKind}
-use Rattle.citation.specs.JudgeParts.{judgeDated, unnamed, namedIn, namedByOrdinal, namedDay, judgeNamed}
+use Rattle.citation.specs.Store.{refuse, unlessRefused, judgeRegisterDay, judgeOrdinal, judgeKind}
+use Rattle.citation.specs.JudgeParts.{judgeDated, unnamed, namedIn, namedByOrdinal, namedDay}
 use Rattle.citation.proofs.JudgementCases.{by-equal, date-accepted, dated-refused, dated-elsewhere, dated-right, of-any-year}
 use Rattle.citation.proofs.JudgementCases.{year-refused, ordinal-wrong, ordinal-right, kind-three, kind-four}
 
@@ -130,6 +130,10 @@ module _ (system year ordinal : ℕ) {y : Days} (e : y ≡ daysOf system year) (
 
     pub by-date : judgeDated system r year ≡ judgeOrdinal system year ordinal
     by-date = by-order (y .length) ordinal past within
+
+-- Kinds 3 and 4: refused as their day is, and otherwise dated.
+abbrev judgeNamed : ℕ → Named → Judgement
+judgeNamed system n = unlessRefused (n .refusal) (judgeDated system (n .day .0) (n .asked))
 
 -- The day that kind 3 names, with the year's days.
 module _ (system year ordinal : ℕ) {y : Days} (e : y ≡ daysOf system year) where

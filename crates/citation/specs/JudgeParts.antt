@@ -1,4 +1,4 @@
--- What the parts of the judgement are handed, and what those give that two kinds share.
+-- What the parts of the judgement are handed, and what those of kinds 3 and 4 give.
 use Prim.Native.Nat.{ℕ, _+_, _-_, _≤_, _<_}
 use mathlib.Core.Path.{_≡_}
 use mathlib.Core.Bool.{Bool, cond, not, _&&_}
@@ -66,7 +66,3 @@ namedDay s =
     cond (eqb (kindOf s) 3)
     (namedByOrdinal (systemOf s) (yearField s) (ordinalField s))
     (record { refusal = 0; day = asRegisterDay (registerDayField s); asked = 0 })
-
--- Kinds 3 and 4.
-abbrev pub judgeNamed : ℕ → Named → Judgement
-judgeNamed system n = unlessRefused (n .refusal) (judgeDated system (n .day .0) (n .asked))

@@ -103,8 +103,8 @@ fn unnamed(refusal: u8) -> Named
     }
 }
 
-// Kind 3. Past the year's end a day is dated in another year, or not at all, so that the head of the year after need not
-// be reckoned.
+// Kind 3. Past the year's end a day is dated in another year, or not at all. So the year's length is not looked at, and
+// the compiler leaves the head of the year after out.
 fn named_by_ordinal(system: u32, year: u32, ordinal: Ordinal) -> Named
     ensures { λ r. ⌜ r ≡ namedByOrdinal system year (ordinal .0) ⌝ }
 {

@@ -19,7 +19,7 @@ use Rattle.reckoning.specs.Requests.{asRegisterDay, monthAt}
 use Rattle.reckoning.specs.MonthSpans.{monthSpan, lastQi}
 use Rattle.reckoning.specs.WordBounds.{ConstantsFit, SpanFits}
 
--- A month that is carried as it should be.
+-- A month with its bounds fits where its count does.
 pub span-fits : {c : Constants} {m : MonthSpan} (k : ℕ) → ConstantsFit c → m ≡ monthSpan c k → k + 2 < 2 ^ 32 → SpanFits c m
 span-fits {c} {m} k fit e small =
     let same : m .month ≡ k = ap (λ x. x .month) e in

@@ -56,7 +56,7 @@ module _ (c : Constants) (n : ℕ) (r : YearInRegister c n) where
   pub register-length-most : registerDay c (headOfYear c (n + 1)) - registerDay c (headOfYear c n) ≤ 384
   register-length-most = omega (arith, length-most, first-head, next-head)
 
--- The months of a list, each as the code carries it.
+-- The months of a list, each as the code has it.
 module _ {c : Constants} {first count : ℕ} (r : MonthsInRegister c first count) where
   pub month-fits : (i : ℕ) → i ≤ count → {m : MonthSpan} → m ≡ monthSpan c (first + i) → SpanFits c m
   month-fits i h e = span-fits (first + i) (r .constants-fit) e (omega (arith, r .first-small, r .count-most))

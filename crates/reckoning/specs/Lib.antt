@@ -10,7 +10,7 @@ pub mod WordedRefusals
 pub mod ComputedRefusals
 -- What a request by system and year stands on.
 pub mod Asked
--- Months as the code carries them.
+-- Months as the code has them.
 pub mod MonthSpans
 -- What each request answers.
 pub mod Requests

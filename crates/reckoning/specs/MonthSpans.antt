@@ -1,4 +1,4 @@
--- Months as the code carries them: with their bounds, and with what their last middle qi tells.
+-- Months as the code has them: with their bounds, and with what their last middle qi tells.
 use Prim.Native.Nat.{ℕ, _+_}
 use Rattle.calendar.specs.declared.data.Constants.{Constants}
 use Rattle.calendar.specs.Month.{monthHead}

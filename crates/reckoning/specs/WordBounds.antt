@@ -29,7 +29,7 @@ pub record InRegister (c : Constants) (d : ℕ) : Type 0 where
   pub from : c .anchor ≤ d
   pub before : d < c .anchor + 2 ^ 31
 
--- A month as the code carries it, with room for the two after it.
+-- A month as the code has it, with room for the two after it.
 pub record SpanFits (c : Constants) (m : MonthSpan) : Type 0 where
   pub constants-fit : ConstantsFit c
   pub is : m ≡ monthSpan c (m .month)

@@ -1,4 +1,4 @@
-// The closed forms of the reckoning, over the constants of one system. The bounds that each asks for keep its numbers
+// Years, days and numbers, over the constants of one system. The bounds that each function asks for keep its numbers
 // within 64 bits; every year in scope meets them.
 ghost use mathlib.Core.Path.{_≡_};
 ghost use Prim.Native.Nat.{_%_, _<_, _^_};

@@ -46,7 +46,8 @@ pub struct Days {
     pub length: u16,
 }
 
-// A day by year, month number, leap mark and day of the month.
+// A day by year, month number, leap mark and day of the month. The year has 32 bits, since a struct of eight bytes is
+// packed into one word and taken apart again.
 pub struct Date {
     pub refusal: u8,
     pub year: u32,

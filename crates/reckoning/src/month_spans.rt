@@ -1,4 +1,5 @@
-// Months with their bounds: of a day, of a middle qi, of a year's beginning, and the one after another.
+// Months with their bounds: that of a day, of a middle qi or of a year's beginning, and the next; a month's last middle
+// qi.
 ghost use mathlib.Core.Path.{_≡_};
 ghost use Prim.Native.Nat.{_+_, _<_, _^_};
 ghost use Rattle.calendar.specs.ClosedForms.{monthOfDay, monthOfQi, firstMonth};
@@ -67,8 +68,8 @@ pub(crate) fn after(c: Constants, m: MonthSpan) -> MonthSpan
     }
 }
 
-// Leap exactly when the parts from that qi to the end of the month hold all days of the month. Both are counted in
-// twelfths, so that all is whole.
+// Leap exactly when there are no fewer parts from that qi to the end of the month than in the month's days. Both are
+// counted in twelfths, so that all is whole.
 pub(crate) fn last_qi(c: Constants, m: MonthSpan) -> LastQi
     requires { ⌜ SpanFits c m ⌝ }
     ensures { λ r. ⌜ r ≡ lastQi c (m .month) ⌝ }

@@ -84,6 +84,11 @@ pub wrote-small : {b a : List ℕ} {at e n tens : ℕ} → n < 100 → tens ≡ 
     → Wrote b at (decimal n) a e
 wrote-small {n = n} {tens = tens} h t w = wrote-as (tens-or-not n h tens t) w
 
+pub wrote-two : (n : ℕ) {b a : List ℕ} {at e first second : ℕ} → first ≡ digit (n / 10) → second ≡ digit (n % 10)
+    → Wrote b at (first ∷ second ∷ []) a e
+    → Wrote b at (twoDigits n) a e
+wrote-two n p q w = wrote-as (λ j. p j ∷ q j ∷ []) w
+
 pub wrote-four : {b m a : List ℕ} {at p e n : ℕ} → 100 ≤ n → n < 10_000
     → Wrote b at (decimal (n / 100)) m p
     → Wrote m p (twoDigits (n % 100)) a e
@@ -105,6 +110,18 @@ pub wrote-eight : {b m₁ m₂ m₃ a : List ℕ} {at p₁ p₂ p₃ e n : ℕ} 
     → Wrote b at (decimal n) a e
 wrote-eight {n = n} l h w v₁ v₂ v₃ =
     wrote-as (eight-at-most n l h) (wrote-then (wrote-then (wrote-then w v₁) v₂) v₃)
+
+one-digit : (n : ℕ) → n < 10 → digit n ∷ [] ≡ decimal n
+unfolding decimal
+one-digit n h = simp (lt-ltb n 100 (omega arith), lt-ltb n 10 h)
+
+pub wrote-seven : {b m₁ m₂ m₃ a : List ℕ} {at p₁ p₂ p₃ e n : ℕ} → 1_000_000 ≤ n → n < 10_000_000
+    → Wrote b at (digit (n / 1_000_000) ∷ []) m₁ p₁
+    → Wrote m₁ p₁ (twoDigits (n / 10_000 % 100)) m₂ p₂
+    → Wrote m₂ p₂ (twoDigits (n / 100 % 100)) m₃ p₃
+    → Wrote m₃ p₃ (twoDigits (n % 100)) a e
+    → Wrote b at (decimal n) a e
+wrote-seven {n = n} l h w = wrote-eight l (omega arith) (wrote-as (one-digit (n / 1_000_000) (omega arith)) w)
 
 pub wrote-four-digits : {b m a : List ℕ} {at p e : ℕ} (n : ℕ) → Wrote b at (twoDigits (n / 100)) m p
     → Wrote m p (twoDigits (n % 100)) a e → Wrote b at (fourDigits n) a e

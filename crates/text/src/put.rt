@@ -1,11 +1,11 @@
 // Text put into an output at a place that has room for it; each function gives the place after what it wrote.
 ghost use mathlib.Core.Path.{_≡_};
-ghost use Prim.Native.Nat.{_+_, _*_, _^_, _≤_, _<_};
+ghost use Prim.Native.Nat.{_+_, _*_, _/_, _%_, _^_, _≤_, _<_};
 ghost use mathlib.Core.Bool.{cond};
 ghost use mathlib.Core.List.{[], _∷_};
 ghost use lib.Dec.{eqb, ltb};
 ghost use lib.ListN.{length};
-ghost use Rattle.text.specs.Decimal.{twoDigits, fourDigits, decimal};
+ghost use Rattle.text.specs.Decimal.{digit, twoDigits, fourDigits, decimal};
 ghost use Rattle.text.specs.Piece.{word, field, year, star, month, numbered, fields, line};
 ghost use Rattle.text.specs.Wrote.{Wrote};
 use crate::letter_of;
@@ -37,11 +37,20 @@ fn has_tens(n: u32) -> usize
     if n < 10 { 0 } else { 1 }
 }
 
+// Both digits in one number, the first in its low byte, so that one store of the machine writes both.
+fn both_digits(n: u32) -> u32
+    requires { ⌜ n < 100 ⌝ }
+    ensures { λ r. ⌜ r ≡ digit (n / 10) + 256 * digit (n % 10) ⌝ }
+{
+    12_336 + 256 * n - 2559 * (n / 10)
+}
+
 fn two_digits(out: &mut [u8], at: usize, n: u32) -> usize
     requires { ⌜ (at + 2 ≤ length (now out)) × (n < 100) ⌝ }
     ensures { λ r. ⌜ Wrote (now (out .entry)) at (twoDigits n) (now (out .exit)) r × (r ≤ at + 2) ⌝ }
 {
-    pair(out, at, 1, (48 + n / 10) as u8, (48 + n % 10) as u8)
+    let both = both_digits(n);
+    pair(out, at, 1, (both % 256) as u8, (both / 256) as u8)
 }
 
 fn below_100(out: &mut [u8], at: usize, n: u32) -> usize
@@ -86,6 +95,13 @@ fn from_100(out: &mut [u8], at: usize, n: u32) -> usize
     if n < 1_000_000 {
         let next = below_100(out, at, n / 10_000);
         let last = two_digits(out, next, n / 100 % 100);
+        return two_digits(out, last, n % 100);
+    }
+    // as register days have
+    if n < 10_000_000 {
+        let next = byte(out, at, (48 + n / 1_000_000) as u8);
+        let third = two_digits(out, next, n / 10_000 % 100);
+        let last = two_digits(out, third, n / 100 % 100);
         return two_digits(out, last, n % 100);
     }
     if n < 100_000_000 {
