@@ -1,4 +1,4 @@
--- Answers fit: heads leave room in 32 bits for the days that follow, and a year its two bytes.
+-- Answers fit: heads leave room in 32 bits for the days that follow, and a date's year fits two bytes.
 use Prim.Native.Nat.{ℕ, _^_, _≤_, _<_}
 use mathlib.Core.Path.{_≡_, subst, ap, sym}
 use native.Mathlib.Omega.{arith}

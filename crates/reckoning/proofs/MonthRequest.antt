@@ -58,51 +58,54 @@ module _ {c : Constants} {n : ℕ} (r : YearInRegister c n) (number : ℕ) {m : 
     abbrev K : Calendar
     K = reckoned c (r .constants-fit .consistent)
 
-    within : Within K n (monthOfQi c (qiOfNumber n number))
+    abbrev k : ℕ
+    k = monthOfQi c (qiOfNumber n number)
+
+    within : Within K n k
     within = within-of-qi K n ((number + 1) % 12) (omega arith)
 
     pub ordinary-fits : SpanFits c m
-    ordinary-fits = span-fits (monthOfQi c (qiOfNumber n number)) (r .constants-fit) month (omega (arith, within, r .months))
+    ordinary-fits = span-fits k (r .constants-fit) month (omega (arith, within, r .months))
 
     pub ordinary-in-register : InRegister c (m .head)
     ordinary-in-register =
         subst (λ x. InRegister c (x .head)) (sym month)
-        (r .head (monthOfQi c (qiOfNumber n number)) (within .0) (omega (arith, within)))
+        (r .head k (within .0) (omega (arith, within)))
 
     module _ {next : MonthSpan} (after : next ≡ monthSpan c (m .month + 1)) where
       -- the month after it, and the day of the middle qi after its own
-      next-is : next ≡ monthSpan c (monthOfQi c (qiOfNumber n number) + 1)
+      next-is : next ≡ monthSpan c (k + 1)
       next-is = after ∙ ap (λ x. monthSpan c (x .month + 1)) month
 
-      end-is : next .next ≡ monthHead c (monthOfQi c (qiOfNumber n number) + 1 + 1)
+      end-is : next .next ≡ monthHead c (k + 1 + 1)
       end-is = ap (λ x. x .next) next-is
 
       pub next-fits : SpanFits c next
       next-fits =
-          span-fits (monthOfQi c (qiOfNumber n number) + 1) (r .constants-fit) next-is (omega (arith, within, r .months))
+          span-fits (k + 1) (r .constants-fit) next-is (omega (arith, within, r .months))
 
       pub next-in-register : InRegister c (next .head)
       next-in-register =
           subst (λ x. InRegister c (x .head)) (sym next-is)
-          (r .head (monthOfQi c (qiOfNumber n number) + 1) (omega (arith, within)) (omega (arith, within)))
+          (r .head (k + 1) (omega (arith, within)) (omega (arith, within)))
 
       module _ {day : ℕ} (qi : day ≡ dayOfQi c (qiOfNumber n number + 1)) where
         pub none-follows : day < next .next → leapFollows c n number ≡ false
         none-follows h =
-            le-ltb (monthOfQi c (qiOfNumber n number) + 1) (monthOfQi c (qiOfNumber n number + 1))
+            le-ltb (k + 1) (monthOfQi c (qiOfNumber n number + 1))
             (omega (
               arith,
-              month-before c (r .constants-fit .consistent) (monthOfQi c (qiOfNumber n number) + 1 + 1)
+              month-before c (r .constants-fit .consistent) (k + 1 + 1)
                   (dayOfQi c (qiOfNumber n number + 1))
                   (omega (arith, end-is)),
             ))
 
         pub one-follows : next .next ≤ day → leapFollows c n number ≡ true
         one-follows h =
-            lt-ltb (monthOfQi c (qiOfNumber n number) + 1) (monthOfQi c (qiOfNumber n number + 1))
+            lt-ltb (k + 1) (monthOfQi c (qiOfNumber n number + 1))
             (omega (
               arith,
-              month-from c (r .constants-fit .consistent) (monthOfQi c (qiOfNumber n number) + 1 + 1)
+              month-from c (r .constants-fit .consistent) (k + 1 + 1)
                   (dayOfQi c (qiOfNumber n number + 1))
                   (omega (arith, end-is)),
             ))

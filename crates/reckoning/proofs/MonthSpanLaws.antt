@@ -11,7 +11,7 @@ use Rattle.calendar.specs.Systems.{registerDay}
 use Rattle.calendar.specs.Month.{monthHead}
 use Rattle.calendar.specs.Calendar.{Calendar}
 use Rattle.calendar.specs.ClosedForms.{monthOfDay, qiBefore, qiOfMonth}
-use Rattle.calendar.proofs.Reckoned.{reckoned, head-small}
+use Rattle.calendar.proofs.Reckoned.{reckoned, month-some, head-small}
 use Rattle.calendar.proofs.EveryCalendar.{month-of-day-most}
 use Rattle.calendar.proofs.Remainders.{partsInto, days-before, days-after, twelfthsSince, twelfthsIn, leap-by-twelfths, ordinary-by-twelfths}
 use Rattle.reckoning.specs.declared.month_spans.MonthSpan.{MonthSpan}
@@ -27,11 +27,14 @@ span-fits {c} {m} k fit e small =
 
 -- The month of day d, by what the division leaves over.
 module _ {c : Constants} (fit : ConstantsFit c) (d : ℕ) where
+  into-below : partsInto c d < c .month
+  into-below = mod-lt ((d + 1) * c .lunar - 1) (month-some c (fit .consistent))
+
   pub into-most : partsInto c d ≤ c .month
-  into-most = omega (arith, mod-lt ((d + 1) * c .lunar - 1) (fit .month-some))
+  into-most = omega (arith, into-below)
 
   pub left-some : 1 ≤ c .month - partsInto c d
-  left-some = omega (arith, mod-lt ((d + 1) * c .lunar - 1) (fit .month-some))
+  left-some = omega (arith, into-below)
 
   pub head-from : partsInto c d / c .lunar ≤ d
   head-from = omega (arith, days-before c (fit .consistent) d)

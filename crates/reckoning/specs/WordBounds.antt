@@ -12,9 +12,6 @@ use Rattle.reckoning.specs.MonthSpans.{monthSpan}
 -- Products of the constants with counts of months, days, years and middle qi.
 pub record ConstantsFit (c : Constants) : Type 0 where
   pub consistent : Consistent c
-  pub month-some : 0 < c .month
-  pub year-some : 0 < c .year
-  pub solar-small : c .solar < 2 ^ 32
   pub units-small : c .units < 2 ^ 32
   pub lunar-days : 2 ^ 38 * c .lunar < 2 ^ 63
   pub solar-days : 2 ^ 38 * (12 * c .solar) < 2 ^ 63

@@ -68,8 +68,8 @@ pub(crate) fn after(c: Constants, m: MonthSpan) -> MonthSpan
     }
 }
 
-// Leap exactly when there are no fewer parts from that qi to the end of the month than in the month's days. Both are
-// counted in twelfths, so that all is whole.
+// What the last middle qi of month m tells. The month is leap exactly when there are no fewer parts from that qi to its
+// end than in its days; both are counted in twelfths, so that all is whole.
 pub(crate) fn last_qi(c: Constants, m: MonthSpan) -> LastQi
     requires { ⌜ SpanFits c m ⌝ }
     ensures { λ r. ⌜ r ≡ lastQi c (m .month) ⌝ }

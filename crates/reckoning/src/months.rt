@@ -100,6 +100,7 @@ fn month_of_year(c: Constants, n: u64, number: u32, leap: u32) -> Month
         return at(c, m);
     }
     let next = after(c, m);
+    // Not leap: it holds the next middle qi.
     if day_of_qi(c, g + 1) < next.next {
         return none(MONTH);
     }
