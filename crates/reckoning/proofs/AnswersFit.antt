@@ -7,7 +7,6 @@ use Rattle.calendar.specs.Month.{monthHead}
 use Rattle.calendar.proofs.EachSystem.{consistent}
 use Rattle.calendar.proofs.Reckoned.{reckoned}
 use Rattle.calendar.proofs.Spans.{span-first, within}
-use Rattle.calendar.proofs.Laws.{year-length-most}
 use Rattle.reckoning.specs.declared.data.Month.{Month}
 use Rattle.reckoning.specs.declared.data.Days.{Days}
 use Rattle.reckoning.specs.declared.data.Date.{Date}
@@ -36,25 +35,17 @@ month-fits system year number leap v e z = go (subst (MonthOutcome system year n
           length-most = omega (arith, (reckoned c (consistent system)) .month-most (m .k));
         }
 
-pub record DaysFit (v : Days) : Type 0 where
-  pub head-small : v .head .0 < 2 ^ 31
-  pub length-most : v .length ≤ 384
-
-pub days-fit : (system year : ℕ) (v : Days) → v ≡ daysOf system year → v .refusal ≡ 0 → DaysFit v
+pub days-fit : (system year : ℕ) (v : Days) → v ≡ daysOf system year → v .refusal ≡ 0 → v .head .0 < 2 ^ 31
 days-fit system year v e z = go (subst (DaysOutcome system year) (sym e) (days-outcome system year))
   where
-    go : DaysOutcome system year v → DaysFit v
+    go : DaysOutcome system year v → v .head .0 < 2 ^ 31
     go (DaysOutcome.system-refused w f) = absurd (omega (arith, ap (λ m. m .refusal) f))
     go (DaysOutcome.year-refused i w f) = absurd (omega (arith, ap (λ m. m .refusal) f))
     go (DaysOutcome.found y) =
         let c = constantsOf system in
         let n = yearsElapsed c year in
-        let ok = consistent system in
         let head = first-head c n (year-in-register system year (y .in-scope .year-inside)) in
-        record {
-          head-small = omega (arith, head, ap (monthHead c) (span-first c ok (y .span)));
-          length-most = omega (arith, year-length-most c ok (y .span));
-        }
+        omega (arith, head, ap (monthHead c) (span-first c (consistent system) (y .span)))
 
 -- A date's year fits two bytes.
 pub date-fits : (system r : ℕ) {v : Date} → v ≡ dateOf system r → v .refusal ≡ 0 → v .year < 2 ^ 16
