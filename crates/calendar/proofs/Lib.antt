@@ -17,6 +17,8 @@ pub mod Spans
 pub mod Numbers
 -- The laws of months and years, in the paper's words.
 pub mod Laws
+-- The leap month of a year, found.
+pub mod LeapMonths
 -- Equal steps of a year, and moments told as days, parts and small units.
 pub mod Steps
 -- The names of days.

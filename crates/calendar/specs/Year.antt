@@ -1,5 +1,7 @@
 -- Years: their months and their days. A year is told by n, the years elapsed since the epoch.
 use Prim.Native.Nat.{ℕ, zero, suc, _+_, _-_, _≤_, _<_}
+use mathlib.Core.Path.{_≡_}
+use mathlib.Core.Logic.{_⊎_}
 use Rattle.calendar.specs.declared.data.Constants.{Constants}
 use Rattle.calendar.specs.Qi.{solsticeDay}
 use Rattle.calendar.specs.Month.{monthHead, InMonth, monthLength, Bears, Marked}
@@ -61,3 +63,7 @@ pub record MonthNumbered (c : Constants) (n number mark k : ℕ) : Type 0 where
 pub record HasLeap (c : Constants) (n number : ℕ) : Type 0 where
   pub month : ℕ
   pub is-leap : MonthNumbered c n number 1 month
+
+-- Paper 02, Q-3, what a refused leap month is told: the number of year n's leap month, or 0 if it has none.
+abbrev pub LeapNumber : Constants → ℕ → ℕ → Type 0
+LeapNumber c n told = HasLeap c n told ⊎ ((told ≡ 0) × ((number : ℕ) → HasLeap c n number → ⊥))

@@ -13,7 +13,7 @@ use Rattle.citation.specs.Record.{kindOf, systemOf, recordOf}
 use Rattle.citation.specs.DayCited.{NamesDay, OnDate}
 use Rattle.citation.specs.CitationRefusals.{Accepted, citationRows}
 use Rattle.citation.specs.DemandWords.{stored}
-use Rattle.citation.specs.Store.{judgeOf, refusalOf, answerOf, storedInto}
+use Rattle.citation.specs.Store.{judgeOf, refusalOf, toldOf, answerOf, storedInto}
 use Rattle.citation.proofs.RowLaws.{first-unique}
 use Rattle.citation.proofs.OneDay.{names-unique}
 use Rattle.citation.proofs.OneDate.{record-unique}
@@ -25,14 +25,15 @@ use Rattle.citation.proofs.Storing.{refusal-none, answer-accepted, outp
 -- An accepted citation's judgement is no refusal, and keeps the day that it names.
 pub record Passed (s : List ℕ) : Type 0 where
   pub no-refusal : (judgeOf s) .refusal ≡ 0
+  pub nothing-told : toldOf s ≡ 0
   pub kept : Kept s (judgeOf s)
 
 pub passed : (s : List ℕ) → Accepted s → Passed s
 passed s a = go (judged s)
   where
     go : Judged (citationRows s) s (judgeOf s) → Passed s
-    go (Judged.refused number some e rows) = absurd (omega (arith, first-unique (citationRows s) number 0 rows a))
-    go (Judged.accepted z rows kept) = record { no-refusal = z; kept = kept }
+    go (Judged.refused number told some tells e rows) = absurd (omega (arith, first-unique (citationRows s) number 0 rows a))
+    go (Judged.accepted z nothing rows kept) = record { no-refusal = z; nothing-told = nothing; kept = kept }
 
 -- The day fits 32 bits, so that the answer tells day and refusal apart.
 pub day-fits : (s : List ℕ) → Accepted s → (judgeOf s) .day .0 < 2 ^ 32
@@ -53,7 +54,7 @@ module _ (s before : List ℕ) (a : Accepted s) (room : 10 ≤ length before) wh
   no-refusal = refusal-none s (length before) (judgeOf s) refl (passed s a .no-refusal) room
 
   pub answer-is : answerOf s (length before) ≡ (judgeOf s) .day .0
-  answer-is = sym (answer-accepted s (judgeOf s) refl (length before) no-refusal)
+  answer-is = sym (answer-accepted s (judgeOf s) refl (length before) no-refusal (passed s a .nothing-told))
 
   whole-output : recordOf (systemOf s) (κ .year) (κ .month) (κ .leap) (κ .day) ++ drop 10 before ≡ storedInto s before
   whole-output = sym (ap (λ t. t ++ drop 10 before) (κ .stored)) ∙ output-accepted s (judgeOf s) refl before no-refusal

@@ -1,4 +1,4 @@
--- The proved examples of paper 01 as paper 02, Q-2, has them: one statement over a table, computed.
+-- The proved examples of paper 01 as paper 02, Q-2, has them, and those of Q-3: one statement over a table, computed.
 use Prim.Native.Nat.{ℕ, _+_, _-_, _/_, _%_}
 use mathlib.Core.Path.{_≡_, refl}
 use mathlib.Core.List.{List, [], _∷_, map}
@@ -8,10 +8,11 @@ use Rattle.calendar.specs.SixtyDayName.{nameOf}
 use Rattle.calendar.specs.Qi.{solstice, qi, dayOf}
 use Rattle.calendar.specs.Month.{newMoon, monthHead}
 use Rattle.calendar.specs.ClosedForms.{firstMonth}
+use Rattle.calendar.specs.LeapMonth.{lastLeap}
 use Rattle.reckoning.specs.Filled.{filled}
 use Rattle.reckoning.specs.ComputedRefusals.{yearRefusal, qiRefusal}
 use Rattle.reckoning.specs.Requests.{solsticeOf, qiOf, yearOf, monthsFrom, daysOf, monthOf, monthIn, dateOf, dateIn}
-use Rattle.citation.specs.Store.{judgeRegisterDay, judgeOrdinal, judgeDay, judgeName, judgeKind, lengthRight, judgeOf, refusalOf, storedInto}
+use Rattle.citation.specs.Store.{judgeRegisterDay, judgeOrdinal, judgeDay, judgeName, judgeKind, lengthRight, judgeOf, refusalOf, toldOf, storedInto}
 use Rattle.reckoning.specs.YearValue.{headIn, numberIn, leapIn}
 
 pub data Question : Type 0 where
@@ -31,7 +32,7 @@ pub data Question : Type 0 where
   -- a month by its place from 1: its number and leap mark; its head and days
   Number : ℕ → ℕ → ℕ → Question
   Month : ℕ → ℕ → ℕ → Question
-  -- a citation: its refusal; its stored record, in an output of ten bytes
+  -- a citation: its refusal and the month told; its stored record, in an output of ten bytes
   Refusal : List ℕ → Question
   Stored : List ℕ → Question
 
@@ -57,7 +58,7 @@ answer (Number system year place) =
     let v = yearOf system year in (numberIn v (place - 1)) ∷ (leapIn v (place - 1)) ∷ []
 answer (Month system year place) =
     let v = yearOf system year in (headIn v (place - 1)) ∷ (headIn v place - headIn v (place - 1)) ∷ []
-answer (Refusal s) = refusalOf s 10 ∷ []
+answer (Refusal s) = refusalOf s 10 ∷ toldOf s ∷ []
 answer (Stored s) = storedInto s (replicate 10 0)
 
 -- The two bytes of a number, and the rest.
@@ -97,18 +98,18 @@ table =
     -- case 3
     ∷ (Months 1 1092 gives (12 ∷ []))
     ∷ (Days 1 1092 gives (355 ∷ []))
-    ∷ (Refusal (byOrdinal 1 1092 355) gives (0 ∷ []))
-    ∷ (Refusal (byOrdinal 1 1092 356) gives (7 ∷ []))
+    ∷ (Refusal (byOrdinal 1 1092 355) gives (0 ∷ 0 ∷ []))
+    ∷ (Refusal (byOrdinal 1 1092 356) gives (7 ∷ 0 ∷ []))
     -- case 4: month 11 is the first
     ∷ (Number 1 1092 1 gives (11 ∷ 0 ∷ []))
     ∷ (Month 1 1092 1 gives (2_119_892 ∷ 30 ∷ []))
-    ∷ (Refusal (byName 1 1092 11 0 50) gives (0 ∷ []))
-    ∷ (Refusal (byName 1 1092 11 0 51) gives (7 ∷ []))
+    ∷ (Refusal (byName 1 1092 11 0 50) gives (0 ∷ 0 ∷ []))
+    ∷ (Refusal (byName 1 1092 11 0 51) gives (7 ∷ 0 ∷ []))
     -- case 5
     ∷ (Head 1 1094 gives (2_120_601 ∷ []))
     ∷ (Months 1 1094 gives (13 ∷ []))
     ∷ (Days 1 1094 gives (384 ∷ []))
-    ∷ (Refusal (byOrdinal 1 1094 385) gives (7 ∷ []))
+    ∷ (Refusal (byOrdinal 1 1094 385) gives (7 ∷ 0 ∷ []))
     -- case 6: ordinary month 5, and the month before it is leap 4
     ∷ (Number 1 1094 8 gives (5 ∷ 0 ∷ []))
     ∷ (Month 1 1094 8 gives (2_120_808 ∷ 29 ∷ []))
@@ -116,9 +117,20 @@ table =
     -- the summer solstice falls just before its new moon, on the same day
     ∷ (Qi 1 1094 12 gives (2_120_808 ∷ []))
     ∷ (BeforeMoon 1 1094 12 8 gives (0 ∷ 76 ∷ []))
-    -- a leap month 5 is refused, by date and by name
-    ∷ (Refusal (byDate 1 1094 5 1 1) gives (6 ∷ []))
-    ∷ (Refusal (byName 1 1094 5 1 37) gives (6 ∷ []))
+    -- paper 02, Q-3: a leap month 5 is refused, by date and by name, and the year's leap month told
+    ∷ (Refusal (byDate 1 1094 5 1 1) gives (10 ∷ 4 ∷ []))
+    ∷ (Refusal (byName 1 1094 5 1 37) gives (10 ∷ 4 ∷ []))
+    -- or 0, in a year of twelve months
+    ∷ (Refusal (byDate 1 1092 5 1 1) gives (10 ∷ 0 ∷ []))
+    ∷ (Refusal (byName 1 1092 5 1 50) gives (10 ∷ 0 ∷ []))
+    -- month 13, and leap byte 2, are refused before
+    ∷ (Refusal (byDate 1 1094 13 1 1) gives (6 ∷ 0 ∷ []))
+    ∷ (Refusal (byName 1 1094 13 1 37) gives (6 ∷ 0 ∷ []))
+    ∷ (Refusal (byDate 1 1094 5 2 1) gives (6 ∷ 0 ∷ []))
+    ∷ (Refusal (byName 1 1094 5 2 37) gives (6 ∷ 0 ∷ []))
+    -- and a day that there is not, after
+    ∷ (Refusal (byDate 1 1094 5 1 31) gives (10 ∷ 4 ∷ []))
+    ∷ (Refusal (byDate 1 1094 4 1 31) gives (7 ∷ 0 ∷ []))
     -- cases 7 and 8
     ∷ (Solstice 2 1106 gives (2_125_008 ∷ 37 ∷ 4536 ∷ []))
     ∷ (FirstMoon 2 1106 gives (50_806 ∷ 2_125_001 ∷ 30 ∷ 4760 ∷ []))
@@ -137,5 +149,5 @@ table =
 
 pub examples : map asked table ≡ map expected table
 unfolding answer asked expected table first-of-case-9 then byOrdinal byDate byName solsticeOf qiOf yearOf yearRefusal qiRefusal monthsFrom filled
-    refusalOf storedInto judgeOf lengthRight judgeKind judgeDay judgeName judgeOrdinal judgeRegisterDay daysOf monthOf monthIn dateOf dateIn
+    lastLeap refusalOf storedInto judgeOf lengthRight judgeKind judgeDay judgeName judgeOrdinal judgeRegisterDay daysOf monthOf monthIn dateOf dateIn
 examples = refl

@@ -17,7 +17,7 @@ use Rattle.citation.specs.Store.{judgeKind, judgeOf, refusalOf}
 use Rattle.citation.proofs.RowLaws.{first-unique, first-before, first-after}
 use Rattle.citation.proofs.JudgementCases.{kind-one, kind-two, kind-three, kind-four}
 use Rattle.citation.proofs.JudgementCases.{by-length, too-short, wrong-kind, wrong-length, right-record}
-use Rattle.citation.proofs.JudgedByKind.{Judged, day-judged, name-judged, ordinal-judged, register-day-judged}
+use Rattle.citation.proofs.JudgedByKind.{Judged, plainly-refused, day-judged, name-judged, ordinal-judged, register-day-judged}
 use Rattle.citation.proofs.Storing.{refusal-kept, refusal-output, refusal-none}
 
 module _ (s : List ℕ) where
@@ -38,20 +38,22 @@ module _ (s : List ℕ) where
   content-decides : (j : Judgement) → (TooShort s → ⊥) → (WrongKind s → ⊥) → (WrongLength s → ⊥)
       → Judged (contentRows s) s j
       → Judged (citationRows s) s j
-  content-decides j a b d (Judged.refused number some e rows) = Judged.refused number some e (inr (a, inr (b, inr (d, rows))))
-  content-decides j a b d (Judged.accepted z rows kept) = Judged.accepted z (inr (a, inr (b, inr (d, rows)))) kept
+  content-decides j a b d (Judged.refused number told some tells e rows) =
+      Judged.refused number told some tells e (inr (a, inr (b, inr (d, rows))))
+  content-decides j a b d (Judged.accepted z nothing rows kept) =
+      Judged.accepted z nothing (inr (a, inr (b, inr (d, rows)))) kept
 
   pub judged : Judged (citationRows s) s (judgeOf s)
   judged =
       by-order (length s) 4
-      (λ h. Judged.refused SHORT (omega arith) (sym (too-short s h refl)) (inl (refl, h)))
+      (λ h. plainly-refused SHORT (omega arith) (sym (too-short s h refl)) (inl (refl, h)))
       (λ h.
       by-inside 1 4 (kindOf s)
-      (λ e out. Judged.refused KIND (omega arith) (sym (wrong-kind s refl h out refl)) (inr (λ v. omega arith, inl (refl, out))))
+      (λ e out. plainly-refused KIND (omega arith) (sym (wrong-kind s refl h out refl)) (inr (λ v. omega arith, inl (refl, out))))
       (λ e into.
       by-length s
       (λ l wrong.
-      Judged.refused LENGTH (omega arith) (sym (wrong-length s refl h into l refl))
+      plainly-refused LENGTH (omega arith) (sym (wrong-length s refl h into l refl))
       (inr (λ v. omega arith, inr (λ v. v into, inl (refl, wrong)))))
       (λ l right.
       subst (Judged (citationRows s) s) (right-record s refl h into l refl)
@@ -62,11 +64,11 @@ pub refusal-first : (s : List ℕ) (room : ℕ) → FirstOf (storingRows s room)
 refusal-first s room = go (judged s)
   where
     go : Judged (citationRows s) s (judgeOf s) → FirstOf (storingRows s room) (refusalOf s room)
-    go (Judged.refused number some e rows) =
+    go (Judged.refused number told some tells e rows) =
         let number-is = ap (λ j. j .refusal) e in
         subst (FirstOf (storingRows s room)) (sym (refusal-kept s room (judgeOf s) refl (λ z. omega arith) ∙ number-is))
         (first-before (citationRows s) (OUTPUT when NoRoom room ∷ []) number some rows)
-    go (Judged.accepted z rows kept) =
+    go (Judged.accepted z nothing rows kept) =
         by-order room 10
         (λ h.
         subst (FirstOf (storingRows s room)) (sym (refusal-output s room (judgeOf s) refl z h))

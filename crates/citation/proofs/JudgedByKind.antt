@@ -21,14 +21,14 @@ use Rattle.reckoning.specs.Requests.{daysOf, monthOf, dateOf}
 use Rattle.reckoning.specs.Outcomes.{MonthFound, MonthOutcome, DaysOutcome, DateFound, DateOutcome}
 use Rattle.reckoning.proofs.RefusalCases.{by-inside}
 use Rattle.reckoning.proofs.RequestsEnd.{days-outcome, month-outcome, date-outcome, year-day-in-scope}
-use Rattle.reckoning.specs.RefusalNumbers.{SYSTEM, YEAR, MONTH, DAY}
+use Rattle.reckoning.specs.RefusalNumbers.{SYSTEM, YEAR, MONTH, DAY, LEAP}
 use Rattle.citation.specs.declared.judge.Judgement.{Judgement}
 use Rattle.citation.specs.Record.{kindOf, systemOf, yearField, monthField, leapField, dayField, nameField}
 use Rattle.citation.specs.Record.{ordinalField, registerDayField, recordOf}
 use Rattle.citation.specs.DayCited.{constantsIn, elapsedIn, CitedMonth, NamesDay, OnDate}
 use Rattle.reckoning.specs.WordedRefusals.{Row, FirstOf}
-use Rattle.citation.specs.CitationRefusals.{contentRows, WrongSystem, WrongYear, WrongMonth, Placed, NotPlaced}
-use Rattle.citation.specs.Store.{refuse, accept, daysToName, judgeRegisterDay, judgeOrdinal, judgeDay, judgeName}
+use Rattle.citation.specs.CitationRefusals.{contentRows, WrongSystem, WrongYear, WrongMonth, WrongLeap, Placed, NotPlaced, Tells}
+use Rattle.citation.specs.Store.{refuseTelling, refuse, accept, daysToName, judgeRegisterDay, judgeOrdinal, judgeDay, judgeName}
 use Rattle.citation.proofs.OneDay.{month-once}
 use Rattle.citation.proofs.JudgementCases.{date-refused, date-accepted, year-refused, ordinal-wrong, ordinal-right}
 use Rattle.citation.proofs.JudgementCases.{month-refused, day-wrong, day-right}
@@ -45,55 +45,71 @@ pub record Kept (s : List ℕ) (j : Judgement) : Type 0 where
   pub stored : j .stored ≡ recordOf (systemOf s) year month leap day
   pub names : NamesDay s (j .day .0)
 
--- A citation judged by rows of refusals: the first that applies, or none.
+-- A citation judged by rows of refusals: the first that applies, with what it tells, or none.
 pub data Judged (rows : List Row) (s : List ℕ) (j : Judgement) : Type 0 where
-  refused : (number : ℕ) → 0 < number → j ≡ refuse number → FirstOf rows number → Judged rows s j
-  accepted : j .refusal ≡ 0 → FirstOf rows 0 → Kept s j → Judged rows s j
+  refused : (number told : ℕ) → 0 < number → Tells s number told → j ≡ refuseTelling number told → FirstOf rows number
+      → Judged rows s j
+  accepted : j .refusal ≡ 0 → j .told ≡ 0 → FirstOf rows 0 → Kept s j → Judged rows s j
+
+-- Any number but LEAP tells nothing.
+pub plainly-refused : {rows : List Row} {s : List ℕ} {j : Judgement} (number : ℕ) → (0 < number) × (number ≡ LEAP → ⊥)
+    → j ≡ refuse number
+    → FirstOf rows number
+    → Judged rows s j
+plainly-refused number other e rows = Judged.refused number 0 (other .0) (inr (other .1, refl)) e rows
 
 -- A value that carries a refusal number is judged by that number.
-refused-as : {A : Type 0} {v w : A} {j : Judgement} → v ≡ w → (number : A → ℕ) → 0 < number w
-    → ((number v ≡ 0 → ⊥) → refuse (number v) ≡ j)
-    → j ≡ refuse (number w)
-refused-as e number some r = sym (r (λ z. omega (arith, ap number e))) ∙ ap (λ x. refuse (number x)) e
+refused-as : {A : Type 0} {v w : A} {j : Judgement} → v ≡ w → (number told : A → ℕ) → 0 < number w
+    → ((number v ≡ 0 → ⊥) → refuseTelling (number v) (told v) ≡ j)
+    → j ≡ refuseTelling (number w) (told w)
+refused-as e number told some r =
+    sym (r (λ z. omega (arith, ap number e))) ∙ ap (λ x. refuseTelling (number x) (told x)) e
 
 module _ (s : List ℕ) where
   abbrev c : Constants
   c = constantsIn s
 
-  -- The month of kinds 1 and 2: refused SYSTEM, YEAR or MONTH, or found.
+  -- Neither month nor leap mark is wrong.
+  abbrev pub MonthRight : Type 0
+  MonthRight = (WrongMonth s → ⊥) × (WrongLeap s → ⊥)
+
+  -- Kinds 3 and 4 have no month.
+  no-month : 2 < kindOf s → MonthRight
+  no-month h = (λ v. omega (arith, v .0), λ v. omega (arith, v .0))
+
+  -- The month of kinds 1 and 2: refused SYSTEM, YEAR, MONTH or LEAP, or found.
   month-judged : (j : Judgement) (m : Month) → kindOf s ≤ 2
       → MonthOutcome (systemOf s) (yearField s) (monthField s) (leapField s) m
-      → ((m .refusal ≡ 0 → ⊥) → refuse (m .refusal) ≡ j)
-      → (MonthFound (systemOf s) (yearField s) (monthField s) (leapField s) m → (WrongMonth s → ⊥) → Judged (contentRows s) s j)
+      → ((m .refusal ≡ 0 → ⊥) → refuseTelling (m .refusal) (m .told) ≡ j)
+      → (MonthFound (systemOf s) (yearField s) (monthField s) (leapField s) m → MonthRight → Judged (contentRows s) s j)
       → Judged (contentRows s) s j
   month-judged j m kind (MonthOutcome.system-refused w e) r f =
-      Judged.refused SYSTEM (omega arith) (refused-as e (λ x. x .refusal) (omega arith) r) (inl (refl, w))
+      plainly-refused SYSTEM (omega arith) (refused-as e (λ x. x .refusal) (λ x. x .told) (omega arith) r) (inl (refl, w))
   month-judged j m kind (MonthOutcome.year-refused i w e) r f =
-      Judged.refused YEAR (omega arith) (refused-as e (λ x. x .refusal) (omega arith) r)
+      plainly-refused YEAR (omega arith) (refused-as e (λ x. x .refusal) (λ x. x .told) (omega arith) r)
       (inr (λ v. v i, inl (refl, (omega arith, w))))
   month-judged j m kind (MonthOutcome.month-refused i w e) r f =
-      Judged.refused MONTH (omega arith) (refused-as e (λ x. x .refusal) (omega arith) r)
+      plainly-refused MONTH (omega arith) (refused-as e (λ x. x .refusal) (λ x. x .told) (omega arith) r)
       (inr (λ v. v (i .system-inside), inr (λ v. v .1 (i .year-inside), inl (refl, (kind, w)))))
+  month-judged j m kind (MonthOutcome.leap-refused i there w told l e) r f =
+      Judged.refused LEAP told (omega arith) (inl (refl, l)) (refused-as e (λ x. x .refusal) (λ x. x .told) (omega arith) r)
+      (inr (λ v. v (i .system-inside), inr (λ v. v .1 (i .year-inside), inr (λ v. there (v .1), inl (refl, (kind, w))))))
   month-judged j m kind (MonthOutcome.found f) r g =
-      g f
-      (λ w.
-      ⊎-elim
-      (λ v. v (f .number-inside))
-      (λ v.
-      ⊎-elim
-      (λ u. u (f .mark-inside))
-      (λ u. u .1 (record { month = f .k; is-leap = subst (λ x. MonthNumbered c (elapsedIn s) (monthField s) x (f .k)) (u .0) (f .numbered) }))
-      v)
-      (w .1))
+      g f (
+        λ w. ⊎-elim (λ v. v (f .number-inside)) (λ v. v (f .mark-inside)) (w .1),
+        λ w.
+            w .1 .1
+            (record { month = f .k; is-leap = subst (λ x. MonthNumbered c (elapsedIn s) (monthField s) x (f .k)) (w .1 .0) (f .numbered) }),
+      )
 
   -- What is left to judge where system, year and month are right: the place.
-  pub place-rows : {number : ℕ} → InScope (systemOf s) (yearField s) → (WrongMonth s → ⊥)
+  pub place-rows : {number : ℕ} → InScope (systemOf s) (yearField s) → MonthRight
       → ((number ≡ DAY) × NotPlaced s) ⊎ ((NotPlaced s → ⊥) × (number ≡ 0))
       → FirstOf (contentRows s) number
   place-rows i w p =
       let system-right : WrongSystem s → ⊥ = λ v. v (i .system-inside) in
       let year-right : WrongYear s → ⊥ = λ v. v .1 (i .year-inside) in
-      inr (system-right, inr (year-right, inr (w, p)))
+      inr (system-right, inr (year-right, inr (w .0, inr (w .1, p))))
 
   -- Kind 1.
   pub day-not-placed : kindOf s ≡ 1 → (k : ℕ) → CitedMonth s k → (Inside 1 (monthLength c k) (dayField s) → ⊥) → NotPlaced s
@@ -118,14 +134,14 @@ module _ (s : List ℕ) where
       let l = f .length-is in
       by-inside 1 (m .length) (dayField s)
       (λ e out.
-      Judged.refused DAY (omega arith) (sym (day-wrong _ _ _ _ _ m refl z e))
+      plainly-refused DAY (omega arith) (sym (day-wrong _ _ _ _ _ m refl z e))
       (place-rows i w (inl (refl, day-not-placed kind k n (λ p. out (subst (λ x. Inside 1 x (dayField s)) (sym l) p))))))
       (λ e into.
       let inside = subst (λ x. Inside 1 x (dayField s)) l into in
       let j = accept (m .head .0 + dayField s - 1) (systemOf s) (yearField s) (monthField s) (leapField s) (dayField s) in
       let day-is : j .day .0 + c .anchor ≡ dayOfMonth c k (dayField s) = omega (arith, into) in
       subst (Judged (contentRows s) s) (day-right _ _ _ _ _ m refl z e)
-      (Judged.accepted refl (place-rows i w (inr (λ v. v (Placed.day-in-month kind k n inside), refl)))
+      (Judged.accepted refl refl (place-rows i w (inr (λ v. v (Placed.day-in-month kind k n inside), refl)))
       (record {
         year = yearField s;
         month = monthField s;
@@ -164,7 +180,7 @@ module _ (s : List ℕ) where
       let least = (reckoned c (consistent (systemOf s))) .month-least k in
       by-order 59 (nameField s)
       (λ far.
-      Judged.refused DAY (omega arith) (sym (no-name _ _ _ _ _ m refl z far))
+      plainly-refused DAY (omega arith) (sym (no-name _ _ _ _ _ m refl z far))
       (place-rows i w (inl (refl, name-not-placed kind k n (λ r p e. omega arith)))))
       (λ near.
       by-order days (m .length)
@@ -174,7 +190,7 @@ module _ (s : List ℕ) where
       let in-month : InMonth c k (j .day .0 + c .anchor) = (omega arith, omega arith) in
       let is-named : nameOf (j .day .0) ≡ nameField s = omega arith in
       subst (Judged (contentRows s) s) (name-right _ _ _ _ _ m refl z near b)
-      (Judged.accepted refl (place-rows i w (inr (λ v. v (Placed.name-in-month kind k (j .day .0) n in-month is-named), refl)))
+      (Judged.accepted refl refl (place-rows i w (inr (λ v. v (Placed.name-in-month kind k (j .day .0) n in-month is-named), refl)))
       (record {
         year = yearField s;
         month = monthField s;
@@ -191,7 +207,7 @@ module _ (s : List ℕ) where
         names = NamesDay.by-name kind k n in-month is-named;
       })))
       (λ b.
-      Judged.refused DAY (omega arith) (sym (name-past _ _ _ _ _ m refl z near b))
+      plainly-refused DAY (omega arith) (sym (name-past _ _ _ _ _ m refl z near b))
       (place-rows i w (inl (refl, name-not-placed kind k n (λ r p e. omega (arith, p, e))))))))
 
   -- A day that is named and has a date is kept.
@@ -225,18 +241,18 @@ module _ (s : List ℕ) where
       → DateOutcome (systemOf s) (registerDayField s) d
       → Judged (contentRows s) s (judgeRegisterDay (systemOf s) (registerDayField s))
   register-day-judged-by kind d is (DateOutcome.system-refused w e) =
-      Judged.refused SYSTEM (omega arith) (refused-as e (λ x. x .refusal) (omega arith) (date-refused _ _ d is))
+      plainly-refused SYSTEM (omega arith) (refused-as e (λ x. x .refusal) (λ x. 0) (omega arith) (date-refused _ _ d is))
       (inl (refl, w))
   register-day-judged-by kind d is (DateOutcome.day-refused i w e) =
-      Judged.refused DAY (omega arith) (refused-as e (λ x. x .refusal) (omega arith) (date-refused _ _ d is))
-      (inr (λ v. v i, inr (λ v. omega (arith, v .0), inr (λ v. omega (arith, v .0), inl (refl, day-out-of-scope kind w)))))
+      plainly-refused DAY (omega arith) (refused-as e (λ x. x .refusal) (λ x. 0) (omega arith) (date-refused _ _ d is))
+      (inr (λ v. v i, inr (λ v. omega (arith, v .0), inr (no-month (omega arith) .0, inr (no-month (omega arith) .1, inl (refl, day-out-of-scope kind w))))))
   register-day-judged-by kind d is (DateOutcome.found f) =
       let system-right : WrongSystem s → ⊥ = λ v. v (f .in-scope .system-inside) in
       let year-right : WrongYear s → ⊥ = λ v. omega (arith, v .0) in
-      let month-right : WrongMonth s → ⊥ = λ v. omega (arith, v .0) in
+      let month-right = no-month (omega arith) in
       let place-right : NotPlaced s → ⊥ = λ v. v (Placed.day-in-scope kind (f .day-in-scope)) in
       subst (Judged (contentRows s) s) (date-accepted _ _ d is (f .not-refused))
-      (Judged.accepted refl (inr (system-right, inr (year-right, inr (month-right, inr (place-right, refl)))))
+      (Judged.accepted refl refl (inr (system-right, inr (year-right, inr (month-right .0, inr (month-right .1, inr (place-right, refl))))))
       (kept-by-date (registerDayField s) d (NamesDay.by-register-day kind refl) f))
 
   pub register-day-judged : kindOf s ≡ 4 → Judged (contentRows s) s (judgeRegisterDay (systemOf s) (registerDayField s))
@@ -263,15 +279,15 @@ module _ (s : List ℕ) where
       absurd (⊎-elim (λ p. omega (arith, p .0)) (λ p. p .0 w) rows)
   on-ordinal-judged r kind names scope d is (DateOutcome.day-refused i w e) rows = absurd (w scope)
   on-ordinal-judged r kind names scope d is (DateOutcome.found f) rows =
-      subst (Judged (contentRows s) s) (date-accepted _ _ d is (f .not-refused)) (Judged.accepted refl rows (kept-by-date r d names f))
+      subst (Judged (contentRows s) s) (date-accepted _ _ d is (f .not-refused)) (Judged.accepted refl refl rows (kept-by-date r d names f))
 
   ordinal-judged-by : kindOf s ≡ 3 → (y : Days) → y ≡ daysOf (systemOf s) (yearField s) → DaysOutcome (systemOf s) (yearField s) y
       → Judged (contentRows s) s (judgeOrdinal (systemOf s) (yearField s) (ordinalField s))
   ordinal-judged-by kind y is (DaysOutcome.system-refused w e) =
-      Judged.refused SYSTEM (omega arith) (refused-as e (λ x. x .refusal) (omega arith) (year-refused _ _ _ y is))
+      plainly-refused SYSTEM (omega arith) (refused-as e (λ x. x .refusal) (λ x. 0) (omega arith) (year-refused _ _ _ y is))
       (inl (refl, w))
   ordinal-judged-by kind y is (DaysOutcome.year-refused i w e) =
-      Judged.refused YEAR (omega arith) (refused-as e (λ x. x .refusal) (omega arith) (year-refused _ _ _ y is))
+      plainly-refused YEAR (omega arith) (refused-as e (λ x. x .refusal) (λ x. 0) (omega arith) (year-refused _ _ _ y is))
       (inr (λ v. v i, inl (refl, (omega arith, w))))
   ordinal-judged-by kind y is (DaysOutcome.found f) =
       let i = f .in-scope in
@@ -281,8 +297,8 @@ module _ (s : List ℕ) where
       by-inside 1 (y .length) (ordinalField s)
       (λ e out.
       let out-there = subst (λ x. Inside 1 x (ordinalField s) → ⊥) l out in
-      Judged.refused DAY (omega arith) (sym (ordinal-wrong _ _ _ y is z e))
-      (place-rows i (λ v. omega (arith, v .0)) (inl (refl, ordinal-not-placed kind span-of out-there))))
+      plainly-refused DAY (omega arith) (sym (ordinal-wrong _ _ _ y is z e))
+      (place-rows i (no-month (omega arith)) (inl (refl, ordinal-not-placed kind span-of out-there))))
       (λ e into.
       let inside = subst (λ x. Inside 1 x (ordinalField s)) l into in
       let r = y .head .0 + ordinalField s - 1 in
@@ -291,7 +307,7 @@ module _ (s : List ℕ) where
       (on-ordinal-judged r kind (NamesDay.by-ordinal kind span-of day-is)
       (year-day-in-scope (systemOf s) (yearField s) r i span-of (omega (arith, into)) (omega (arith, inside)))
       _ refl (date-outcome (systemOf s) r)
-      (place-rows i (λ v. omega (arith, v .0)) (inr (λ v. v (Placed.ordinal-in-year kind span-of inside), refl)))))
+      (place-rows i (no-month (omega arith)) (inr (λ v. v (Placed.ordinal-in-year kind span-of inside), refl)))))
 
   pub ordinal-judged : kindOf s ≡ 3 → Judged (contentRows s) s (judgeOrdinal (systemOf s) (yearField s) (ordinalField s))
   ordinal-judged kind = ordinal-judged-by kind _ refl (days-outcome (systemOf s) (yearField s))

@@ -23,7 +23,7 @@ use Rattle.reckoning.specs.declared.data.Days.{Days}
 use Rattle.reckoning.specs.declared.data.Date.{Date}
 use Rattle.reckoning.specs.Requests.{daysOf, monthOf, dateOf}
 use Rattle.citation.specs.declared.judge.Judgement.{Judgement}
-use Rattle.citation.specs.Store.{refuse, accept, unlessRefused, unlessWrong, judgeDate, judgeRegisterDay, judgeInYear}
+use Rattle.citation.specs.Store.{refuseTelling, refuse, accept, unlessRefused, unlessWrong, judgeDate, judgeRegisterDay, judgeInYear}
 use Rattle.citation.specs.Store.{judgeOrdinal, judgeInMonth, judgeDay, judgeNameInMonth, judgeName, daysToName, nameWrong}
 use Rattle.citation.specs.Store.{lengthRight, judgeKind, judgeOf}
 
@@ -31,17 +31,17 @@ pub by-equal : {P : Type 0} (m n : ℕ) → (m ≡ n → P) → ((m ≡ n → �
 by-equal m n f g = elim (ℕ-discrete m n) [ yes e ↦ f e | no e ↦ g e ]
 
 -- One law for every kind.
-module _ (refusal : ℕ) (wrong : Bool) (j : Judgement) where
-  refused-by : (refusal ≡ 0 → ⊥) → refuse refusal ≡ unlessRefused refusal j
+module _ (refusal told : ℕ) (wrong : Bool) (j : Judgement) where
+  refused-by : (refusal ≡ 0 → ⊥) → refuseTelling refusal told ≡ unlessRefused refusal told j
   refused-by h = simp (ne-eqb refusal 0 h)
 
-  accepted-by : refusal ≡ 0 → j ≡ unlessRefused refusal j
-  accepted-by h = ap (λ accepted. cond accepted j (refuse refusal)) (sym (eq-eqb refusal 0 h))
+  accepted-by : refusal ≡ 0 → j ≡ unlessRefused refusal told j
+  accepted-by h = ap (λ accepted. cond accepted j (refuseTelling refusal told)) (sym (eq-eqb refusal 0 h))
 
-  wrong-place : refusal ≡ 0 → wrong ≡ true → refuse DAY ≡ unlessRefused refusal (unlessWrong wrong j)
+  wrong-place : refusal ≡ 0 → wrong ≡ true → refuse DAY ≡ unlessRefused refusal told (unlessWrong wrong j)
   wrong-place h e = simp (eq-eqb refusal 0 h, e)
 
-  right-place : refusal ≡ 0 → wrong ≡ false → j ≡ unlessRefused refusal (unlessWrong wrong j)
+  right-place : refusal ≡ 0 → wrong ≡ false → j ≡ unlessRefused refusal told (unlessWrong wrong j)
   right-place h e = simp (eq-eqb refusal 0 h, e)
 
 -- Kind 4, with the day's date.
@@ -54,25 +54,25 @@ module _ (system r : ℕ) (d : Date) (e : d ≡ dateOf system r) where
   dated = ap (λ x. judgeDate x system r) e
 
   pub date-refused : (d .refusal ≡ 0 → ⊥) → refuse (d .refusal) ≡ judgeRegisterDay system r
-  date-refused h = refused-by (d .refusal) false on-date h ∙ dated
+  date-refused h = refused-by (d .refusal) 0 false on-date h ∙ dated
 
   pub date-accepted : d .refusal ≡ 0 → on-date ≡ judgeRegisterDay system r
-  date-accepted h = accepted-by (d .refusal) false on-date h ∙ dated
+  date-accepted h = accepted-by (d .refusal) 0 false on-date h ∙ dated
 
 -- The same, where a year may be asked for.
 module _ (system r asked : ℕ) (d : Date) (e : d ≡ dateOf system r) where
-  dated-of : unlessRefused (d .refusal) (unlessWrong (ofAnotherYear (d .year) asked) (on-date system r d e)) ≡ judgeDated system r asked
+  dated-of : unlessRefused (d .refusal) 0 (unlessWrong (ofAnotherYear (d .year) asked) (on-date system r d e)) ≡ judgeDated system r asked
   unfolding judgeDated
-  dated-of = ap (λ x. unlessRefused (x .refusal) (unlessWrong (ofAnotherYear (x .year) asked) (accept r system (x .year) (x .month) (x .leap) (x .day)))) e
+  dated-of = ap (λ x. unlessRefused (x .refusal) 0 (unlessWrong (ofAnotherYear (x .year) asked) (accept r system (x .year) (x .month) (x .leap) (x .day)))) e
 
   pub dated-refused : (d .refusal ≡ 0 → ⊥) → refuse (d .refusal) ≡ judgeDated system r asked
-  dated-refused h = refused-by (d .refusal) false (unlessWrong (ofAnotherYear (d .year) asked) (on-date system r d e)) h ∙ dated-of
+  dated-refused h = refused-by (d .refusal) 0 false (unlessWrong (ofAnotherYear (d .year) asked) (on-date system r d e)) h ∙ dated-of
 
   pub dated-elsewhere : d .refusal ≡ 0 → ofAnotherYear (d .year) asked ≡ true → refuse DAY ≡ judgeDated system r asked
-  dated-elsewhere h w = wrong-place (d .refusal) (ofAnotherYear (d .year) asked) (on-date system r d e) h w ∙ dated-of
+  dated-elsewhere h w = wrong-place (d .refusal) 0 (ofAnotherYear (d .year) asked) (on-date system r d e) h w ∙ dated-of
 
   pub dated-right : d .refusal ≡ 0 → ofAnotherYear (d .year) asked ≡ false → on-date system r d e ≡ judgeDated system r asked
-  dated-right h w = right-place (d .refusal) (ofAnotherYear (d .year) asked) (on-date system r d e) h w ∙ dated-of
+  dated-right h w = right-place (d .refusal) 0 (ofAnotherYear (d .year) asked) (on-date system r d e) h w ∙ dated-of
 
 -- Kind 4 asks for no year.
 pub of-any-year : (system r : ℕ) → judgeDated system r 0 ≡ judgeRegisterDay system r
@@ -89,13 +89,13 @@ module _ (system year ordinal : ℕ) (y : Days) (e : y ≡ daysOf system year) w
   in-year = ap (λ x. judgeInYear x system ordinal) e
 
   pub year-refused : (y .refusal ≡ 0 → ⊥) → refuse (y .refusal) ≡ judgeOrdinal system year ordinal
-  year-refused h = refused-by (y .refusal) false (unlessWrong (outside 1 (y .length) ordinal) on-ordinal) h ∙ in-year
+  year-refused h = refused-by (y .refusal) 0 false (unlessWrong (outside 1 (y .length) ordinal) on-ordinal) h ∙ in-year
 
   pub ordinal-wrong : y .refusal ≡ 0 → outside 1 (y .length) ordinal ≡ true → refuse DAY ≡ judgeOrdinal system year ordinal
-  ordinal-wrong h w = wrong-place (y .refusal) (outside 1 (y .length) ordinal) on-ordinal h w ∙ in-year
+  ordinal-wrong h w = wrong-place (y .refusal) 0 (outside 1 (y .length) ordinal) on-ordinal h w ∙ in-year
 
   pub ordinal-right : y .refusal ≡ 0 → outside 1 (y .length) ordinal ≡ false → on-ordinal ≡ judgeOrdinal system year ordinal
-  ordinal-right h w = right-place (y .refusal) (outside 1 (y .length) ordinal) on-ordinal h w ∙ in-year
+  ordinal-right h w = right-place (y .refusal) 0 (outside 1 (y .length) ordinal) on-ordinal h w ∙ in-year
 
 -- Kind 1, with its month.
 module _ (system year month leap day : ℕ) (m : Month) (e : m ≡ monthOf system year month leap) where
@@ -106,14 +106,14 @@ module _ (system year month leap day : ℕ) (m : Month) (e : m ≡ monthOf syste
   unfolding judgeDay
   in-month = ap (λ x. judgeInMonth x system year month leap day) e
 
-  pub month-refused : (m .refusal ≡ 0 → ⊥) → refuse (m .refusal) ≡ judgeDay system year month leap day
-  month-refused h = refused-by (m .refusal) false (unlessWrong (outside 1 (m .length) day) on-day) h ∙ in-month
+  pub month-refused : (m .refusal ≡ 0 → ⊥) → refuseTelling (m .refusal) (m .told) ≡ judgeDay system year month leap day
+  month-refused h = refused-by (m .refusal) (m .told) false (unlessWrong (outside 1 (m .length) day) on-day) h ∙ in-month
 
   pub day-wrong : m .refusal ≡ 0 → outside 1 (m .length) day ≡ true → refuse DAY ≡ judgeDay system year month leap day
-  day-wrong h w = wrong-place (m .refusal) (outside 1 (m .length) day) on-day h w ∙ in-month
+  day-wrong h w = wrong-place (m .refusal) (m .told) (outside 1 (m .length) day) on-day h w ∙ in-month
 
   pub day-right : m .refusal ≡ 0 → outside 1 (m .length) day ≡ false → on-day ≡ judgeDay system year month leap day
-  day-right h w = right-place (m .refusal) (outside 1 (m .length) day) on-day h w ∙ in-month
+  day-right h w = right-place (m .refusal) (m .told) (outside 1 (m .length) day) on-day h w ∙ in-month
 
 -- Kind 2, with its month.
 module _ (system year month leap name : ℕ) (m : Month) (e : m ≡ monthOf system year month leap) where
@@ -127,19 +127,19 @@ module _ (system year month leap name : ℕ) (m : Month) (e : m ≡ monthOf syst
   unfolding judgeName
   name-in-month = ap (λ x. judgeNameInMonth x system year month leap name) e
 
-  pub name-month-refused : (m .refusal ≡ 0 → ⊥) → refuse (m .refusal) ≡ judgeName system year month leap name
-  name-month-refused h = refused-by (m .refusal) false (unlessWrong (nameWrong m name) on-name) h ∙ name-in-month
+  pub name-month-refused : (m .refusal ≡ 0 → ⊥) → refuseTelling (m .refusal) (m .told) ≡ judgeName system year month leap name
+  name-month-refused h = refused-by (m .refusal) (m .told) false (unlessWrong (nameWrong m name) on-name) h ∙ name-in-month
 
   pub no-name : m .refusal ≡ 0 → 59 < name → refuse DAY ≡ judgeName system year month leap name
-  no-name z h = wrong-place (m .refusal) (nameWrong m name) on-name z (simp (lt-ltb 59 name h)) ∙ name-in-month
+  no-name z h = wrong-place (m .refusal) (m .told) (nameWrong m name) on-name z (simp (lt-ltb 59 name h)) ∙ name-in-month
 
   pub name-past : m .refusal ≡ 0 → name ≤ 59 → m .length ≤ days → refuse DAY ≡ judgeName system year month leap name
   name-past z h l =
-      wrong-place (m .refusal) (nameWrong m name) on-name z (ap₂ _||_ (le-ltb 59 name h) (le-leb (m .length) days l)) ∙ name-in-month
+      wrong-place (m .refusal) (m .told) (nameWrong m name) on-name z (ap₂ _||_ (le-ltb 59 name h) (le-leb (m .length) days l)) ∙ name-in-month
 
   pub name-right : m .refusal ≡ 0 → name ≤ 59 → days < m .length → on-name ≡ judgeName system year month leap name
   name-right z h l =
-      right-place (m .refusal) (nameWrong m name) on-name z (ap₂ _||_ (le-ltb 59 name h) (lt-leb (m .length) days l)) ∙ name-in-month
+      right-place (m .refusal) (m .told) (nameWrong m name) on-name z (ap₂ _||_ (le-ltb 59 name h) (lt-leb (m .length) days l)) ∙ name-in-month
 
   -- the same, with the name of the month's first day at hand
   pub name-right-from : (first : ℕ) → first ≡ nameOf (m .head .0) → m .refusal ≡ 0 → name ≤ 59
@@ -194,7 +194,7 @@ module _ (s : List ℕ) {j : Judgement} {system : ℕ} (system-is : system ≡ s
   -- kinds 1 and 2 are refused as their month is
   pub kind-one-or-two : {year month leap : ℕ} {m : Month} → Inside 1 2 (kindOf s) → m ≡ monthOf system year month leap
       → (m .refusal ≡ 0 → ⊥)
-      → j ≡ refuse (m .refusal)
+      → j ≡ refuseTelling (m .refusal) (m .told)
       → year ≡ yearField s
       → month ≡ monthField s
       → leap ≡ leapField s

@@ -40,7 +40,7 @@ rightly s a =
       length-right = none .1 .1 .0;
       system-right = none .1 .1 .1 .0;
       year-right = none .1 .1 .1 .1 .0;
-      place-right = none .1 .1 .1 .1 .1 .1 .0;
+      place-right = none .1 .1 .1 .1 .1 .1 .1 .0;
     }
 
 module _ (b : List ℕ) (a : Accepted b) (kind : kindOf b ≡ 1) where

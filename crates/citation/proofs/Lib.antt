@@ -15,6 +15,8 @@ pub mod OneDay
 pub mod JudgedByKind
 -- Every citation is judged by the table.
 pub mod FirstRefusal
+-- What is told with a refusal.
+pub mod LeapMonthTold
 -- A register day has one date in a system.
 pub mod OneDate
 -- A stored record is itself a citation.

@@ -133,7 +133,7 @@ module _ (system year ordinal : ℕ) {y : Days} (e : y ≡ daysOf system year) (
 
 -- Kinds 3 and 4: refused as their day is, and otherwise dated.
 abbrev judgeNamed : ℕ → Named → Judgement
-judgeNamed system n = unlessRefused (n .refusal) (judgeDated system (n .day .0) (n .asked))
+judgeNamed system n = unlessRefused (n .refusal) 0 (judgeDated system (n .day .0) (n .asked))
 
 -- The day that kind 3 names, with the year's days.
 module _ (system year ordinal : ℕ) {y : Days} (e : y ≡ daysOf system year) where

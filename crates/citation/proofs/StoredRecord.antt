@@ -14,9 +14,9 @@ use Rattle.calendar.proofs.Laws.{number-inside, mark-inside}
 use Rattle.reckoning.specs.Scope.{InScope}
 use Rattle.citation.specs.Record.{Bytes, yearField, recordOf}
 use Rattle.citation.specs.DayCited.{elapsedIn, CitedMonth, NamesDay, OnDate}
-use Rattle.citation.specs.CitationRefusals.{TooShort, WrongKind, WrongLength, WrongMonth}
+use Rattle.citation.specs.CitationRefusals.{TooShort, WrongKind, WrongLength}
 use Rattle.citation.specs.CitationRefusals.{Placed, NotPlaced, Accepted}
-use Rattle.citation.proofs.JudgedByKind.{place-rows}
+use Rattle.citation.proofs.JudgedByKind.{MonthRight, place-rows}
 
 -- Bytes, one by one.
 abbrev EachByte : List ℕ → Type 0
@@ -57,16 +57,17 @@ module _ (system r year month leap day : ℕ) (d : OnDate system r year month le
   in-scope : InScope system (yearField rec)
   in-scope = subst (InScope system) (sym year-read) (d .in-scope)
 
-  month-right : WrongMonth rec → ⊥
-  month-right w =
-      ⊎-elim
-      (λ v. v (number-inside c ok (elapsedIn rec) month leap (d .k) month-read))
-      (λ v.
-      ⊎-elim
-      (λ u. u (mark-inside c ok (elapsedIn rec) month leap (d .k) month-read))
-      (λ u. u .1 (record { month = d .k; is-leap = subst (λ x. MonthNumbered c (elapsedIn rec) month x (d .k)) (u .0) month-read }))
-      v)
-      (w .1)
+  month-right : MonthRight rec
+  month-right = (
+    λ w.
+        ⊎-elim
+        (λ v. v (number-inside c ok (elapsedIn rec) month leap (d .k) month-read))
+        (λ v. v (mark-inside c ok (elapsedIn rec) month leap (d .k) month-read))
+        (w .1),
+    λ w.
+        w .1 .1
+        (record { month = d .k; is-leap = subst (λ x. MonthNumbered c (elapsedIn rec) month x (d .k)) (w .1 .0) month-read }),
+  )
 
   place-right : NotPlaced rec → ⊥
   place-right w = w (Placed.day-in-month refl (d .k) month-read (d .placed))

@@ -1,15 +1,16 @@
--- Numbered refusals: paper 01's table, a definition a row, in its order.
+-- Numbered refusals: paper 01's table with the row of paper 02, Q-3, a definition a row, in its order.
 use Prim.Native.Nat.{ℕ, _+_, _≤_, _<_}
 use mathlib.Core.Path.{_≡_}
+use mathlib.Core.Logic.{_⊎_}
 use mathlib.Core.List.{List, [], _∷_, _++_}
 use lib.ListN.{length}
 use Rattle.calendar.specs.Inside.{Inside}
 use Rattle.calendar.specs.SixtyDayName.{nameOf}
 use Rattle.calendar.specs.Month.{InMonth, monthLength}
-use Rattle.calendar.specs.Year.{Span, yearLength}
-use Rattle.reckoning.specs.RefusalNumbers.{SHORT, KIND, LENGTH, SYSTEM, YEAR, MONTH, DAY, OUTPUT}
+use Rattle.calendar.specs.Year.{Span, yearLength, LeapNumber}
+use Rattle.reckoning.specs.RefusalNumbers.{SHORT, KIND, LENGTH, SYSTEM, YEAR, MONTH, DAY, OUTPUT, LEAP}
 use Rattle.reckoning.specs.WordedRefusals.{Row, _when_, FirstOf}
-use Rattle.reckoning.specs.Scope.{SystemInScope, YearInScope, NoSuchMonth, DayInScope}
+use Rattle.reckoning.specs.Scope.{SystemInScope, YearInScope, NoSuchMonth, NotLeap, DayInScope}
 use Rattle.citation.specs.Record.{lengthField, kindOf, systemOf, kindLength, yearField, monthField, leapField}
 use Rattle.citation.specs.Record.{dayField, nameField, ordinalField, registerDayField}
 use Rattle.citation.specs.DayCited.{constantsIn, elapsedIn, CitedMonth}
@@ -36,7 +37,11 @@ WrongYear s = (kindOf s ≤ 3) × (YearInScope (yearField s) → ⊥)
 
 -- MONTH: a month that there is not, in the kinds that have one.
 abbrev pub WrongMonth : List ℕ → Type 0
-WrongMonth s = (kindOf s ≤ 2) × NoSuchMonth (constantsIn s) (elapsedIn s) (monthField s) (leapField s)
+WrongMonth s = (kindOf s ≤ 2) × NoSuchMonth (monthField s) (leapField s)
+
+-- LEAP, right after it: a leap month that the year has not, in the same kinds.
+abbrev pub WrongLeap : List ℕ → Type 0
+WrongLeap s = (kindOf s ≤ 2) × NotLeap (constantsIn s) (elapsedIn s) (monthField s) (leapField s)
 
 -- What is cited exists: the month has the day, or a day of the name; the year has the ordinal; the register day lies in
 -- years 1 to 3000.
@@ -61,7 +66,13 @@ NoRoom room = room < 10
 
 -- The rows on what a record says,
 abbrev pub contentRows : List ℕ → List Row
-contentRows s = SYSTEM when WrongSystem s ∷ YEAR when WrongYear s ∷ MONTH when WrongMonth s ∷ DAY when NotPlaced s ∷ []
+contentRows s =
+    SYSTEM when WrongSystem s
+    ∷ YEAR when WrongYear s
+    ∷ MONTH when WrongMonth s
+    ∷ LEAP when WrongLeap s
+    ∷ DAY when NotPlaced s
+    ∷ []
 
 -- after those on whether it is a record at all: these judge a citation by its bytes,
 abbrev pub citationRows : List ℕ → List Row
@@ -74,3 +85,9 @@ storingRows s room = citationRows s ++ (OUTPUT when NoRoom room ∷ [])
 -- Accepted: none of those on its bytes applies.
 abbrev pub Accepted : List ℕ → Type 0
 Accepted s = FirstOf (citationRows s) 0
+
+-- What is told with a refusal number, and with 0 when accepted: with LEAP, and only with it, the leap month of the
+-- year cited, or 0 if it has none.
+abbrev pub Tells : List ℕ → ℕ → ℕ → Type 0
+Tells s number told =
+    ((number ≡ LEAP) × LeapNumber (constantsIn s) (elapsedIn s) told) ⊎ ((number ≡ LEAP → ⊥) × (told ≡ 0))

@@ -43,7 +43,7 @@ ofAnotherYear year asked = not (eqb asked 0) && not (eqb year asked)
 unfoldable pub judgeDated : ℕ → ℕ → ℕ → Judgement
 judgeDated system r asked =
     let d = dateOf system r in
-    unlessRefused (d .refusal)
+    unlessRefused (d .refusal) 0
     (unlessWrong (ofAnotherYear (d .year) asked) (accept r system (d .year) (d .month) (d .leap) (d .day)))
 
 -- The day that a citation of kind 3 or 4 names, or why there is none; and the year asked for.

@@ -15,16 +15,21 @@ use Rattle.citation.specs.declared.judge.Judgement.{Judgement}
 use Rattle.citation.specs.Record.{lengthField, kindOf, systemOf, kindLength, yearField, monthField, leapField}
 use Rattle.citation.specs.Record.{dayField, nameField, ordinalField, registerDayField, recordOf}
 
--- A citation's judgement: its refusal number, or 0 with the day that it names and its stored record.
+-- A citation's judgement: its refusal number and what that tells, or 0 with the day that it names and its stored
+-- record.
+abbrev pub refuseTelling : ℕ → ℕ → Judgement
+refuseTelling refusal told = record { refusal = refusal; day = asRegisterDay 0; stored = replicate 10 0; told = told }
+
 abbrev pub refuse : ℕ → Judgement
-refuse refusal = record { refusal = refusal; day = asRegisterDay 0; stored = replicate 10 0 }
+refuse refusal = refuseTelling refusal 0
 
 abbrev pub accept : ℕ → ℕ → ℕ → ℕ → ℕ → ℕ → Judgement
-accept r system year month leap day = record { refusal = 0; day = asRegisterDay r; stored = recordOf system year month leap day }
+accept r system year month leap day =
+    record { refusal = 0; day = asRegisterDay r; stored = recordOf system year month leap day; told = 0 }
 
--- Refused as the reckoning refuses, and judged otherwise.
-abbrev pub unlessRefused : ℕ → Judgement → Judgement
-unlessRefused refusal j = cond (eqb refusal 0) j (refuse refusal)
+-- Refused as the reckoning refuses, with what that tells, and judged otherwise.
+abbrev pub unlessRefused : ℕ → ℕ → Judgement → Judgement
+unlessRefused refusal told j = cond (eqb refusal 0) j (refuseTelling refusal told)
 
 -- Refused DAY where the place is wrong, and judged otherwise.
 abbrev pub unlessWrong : Bool → Judgement → Judgement
@@ -32,7 +37,7 @@ unlessWrong wrong j = cond wrong (refuse DAY) j
 
 -- Kind 4: the register day, stored by its date.
 abbrev pub judgeDate : Date → ℕ → ℕ → Judgement
-judgeDate d system r = unlessRefused (d .refusal) (accept r system (d .year) (d .month) (d .leap) (d .day))
+judgeDate d system r = unlessRefused (d .refusal) 0 (accept r system (d .year) (d .month) (d .leap) (d .day))
 
 unfoldable pub judgeRegisterDay : ℕ → ℕ → Judgement
 judgeRegisterDay system r = judgeDate (dateOf system r) system r
@@ -40,7 +45,7 @@ judgeRegisterDay system r = judgeDate (dateOf system r) system r
 -- Kind 3: the day of the year with the ordinal.
 abbrev pub judgeInYear : Days → ℕ → ℕ → Judgement
 judgeInYear y system ordinal =
-    unlessRefused (y .refusal)
+    unlessRefused (y .refusal) 0
     (unlessWrong (outside 1 (y .length) ordinal) (judgeRegisterDay system (y .head .0 + ordinal - 1)))
 
 unfoldable pub judgeOrdinal : ℕ → ℕ → ℕ → Judgement
@@ -49,7 +54,7 @@ judgeOrdinal system year ordinal = judgeInYear (daysOf system year) system ordin
 -- Kind 1: the day of the month.
 abbrev pub judgeInMonth : Month → ℕ → ℕ → ℕ → ℕ → ℕ → Judgement
 judgeInMonth m system year month leap day =
-    unlessRefused (m .refusal)
+    unlessRefused (m .refusal) (m .told)
     (unlessWrong (outside 1 (m .length) day) (accept (m .head .0 + day - 1) system year month leap day))
 
 unfoldable pub judgeDay : ℕ → ℕ → ℕ → ℕ → ℕ → Judgement
@@ -66,7 +71,7 @@ nameWrong m name = ltb 59 name || leb (m .length) (daysToName (m .head .0) name)
 -- Kind 2: the day of the month with the name.
 abbrev pub judgeNameInMonth : Month → ℕ → ℕ → ℕ → ℕ → ℕ → Judgement
 judgeNameInMonth m system year month leap name =
-    unlessRefused (m .refusal)
+    unlessRefused (m .refusal) (m .told)
     (unlessWrong (nameWrong m name)
     (accept (m .head .0 + daysToName (m .head .0) name) system year month leap (daysToName (m .head .0) name + 1)))
 
@@ -101,9 +106,14 @@ judgeOf s =
 unfoldable pub refusalOf : List ℕ → ℕ → ℕ
 refusalOf s room = cond (eqb ((judgeOf s) .refusal) 0) (cond (ltb room 10) OUTPUT 0) ((judgeOf s) .refusal)
 
--- The answer: the register day, 0 where refused, plus 2^32 times the refusal number.
+-- What the refusal tells: with LEAP, the number of the year's leap month.
+abbrev pub toldOf : List ℕ → ℕ
+toldOf s = (judgeOf s) .told
+
+-- The answer: the register day, 0 where refused, plus 2^32 times the refusal number and 2^40 times the month told.
 unfoldable pub answerOf : List ℕ → ℕ → ℕ
-answerOf s room = cond (eqb (refusalOf s room) 0) ((judgeOf s) .day .0) 0 + 2 ^ 32 * refusalOf s room
+answerOf s room =
+    cond (eqb (refusalOf s room) 0) ((judgeOf s) .day .0) 0 + 2 ^ 32 * refusalOf s room + 2 ^ 40 * toldOf s
 
 -- The output afterwards: the stored record in the first ten bytes and the rest left; where refused, as it was.
 unfoldable pub storedInto : List ℕ → List ℕ → List ℕ

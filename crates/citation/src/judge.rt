@@ -2,7 +2,7 @@
 ghost use mathlib.Core.Path.{_≡_};
 ghost use Prim.Native.Nat.{_≤_, _<_};
 ghost use lib.ListN.{length};
-ghost use Rattle.citation.specs.Store.{refuse, accept, judgeDay, judgeName, lengthRight, judgeKind, judgeOf};
+ghost use Rattle.citation.specs.Store.{refuseTelling, refuse, accept, judgeDay, judgeName, lengthRight, judgeKind, judgeOf};
 ghost use Rattle.citation.specs.Record.{kindOf, systemOf, kindLength};
 ghost use Rattle.citation.specs.JudgeParts.{Fields, Whole, Found, ofAnotherYear, judgeDated, unnamed, namedByOrdinal, namedDay};
 use calendar::data::DayName;
@@ -18,21 +18,30 @@ use reckoning::refusal_numbers::KIND;
 use reckoning::refusal_numbers::LENGTH;
 use reckoning::refusal_numbers::SHORT;
 
-// `refusal` is 0 when the citation is accepted; refused, day and record are zeros.
+// `refusal` is 0 when the citation is accepted; refused, day and record are zeros. Refused LEAP, `told` is the number of
+// the year's leap month, 0 if it has none; otherwise it is 0.
 pub struct Judgement {
     pub refusal: u8,
     pub day: RegisterDay,
     pub stored: [u8; 10],
+    pub told: u8,
 }
 
-fn refuse(refusal: u8) -> Judgement
-    ensures { λ r. ⌜ r ≡ refuse refusal ⌝ }
+fn refuse_telling(refusal: u8, told: u8) -> Judgement
+    ensures { λ r. ⌜ r ≡ refuseTelling refusal told ⌝ }
 {
     Judgement {
         refusal: refusal,
         day: RegisterDay(0),
         stored: [0u8; 10],
+        told: told,
     }
+}
+
+fn refuse(refusal: u8) -> Judgement
+    ensures { λ r. ⌜ r ≡ refuse refusal ⌝ }
+{
+    refuse_telling(refusal, 0)
 }
 
 fn accept(r: u32, system: u32, year: u32, month: u32, leap: u32, day: u32) -> Judgement
@@ -54,6 +63,7 @@ fn accept(r: u32, system: u32, year: u32, month: u32, leap: u32, day: u32) -> Ju
             leap as u8,
             day as u8,
         ],
+        told: 0,
     }
 }
 
@@ -178,7 +188,7 @@ fn judge_kind(s: &[u8], kind: u32) -> Judgement
         let leap = wide(s[8]);
         let m = reckoning::month(system, year, month, leap);
         if m.refusal != 0 {
-            return refuse(m.refusal);
+            return refuse_telling(m.refusal, m.told);
         }
         if kind == 1 {
             return judge_day(m, system, year, month, leap, wide(s[9]));

@@ -7,8 +7,11 @@ ghost use Rattle.citation.specs.Store.{answerOf, storedInto};
 use crate::judge::judge;
 use reckoning::refusal_numbers::OUTPUT;
 
-// 2^32: a refusal number stands above the 32 bits of a day.
+// 2^32: a refusal number stands above the 32 bits of a day,
 const REFUSAL_UNIT: u64 = 4_294_967_296;
+
+// and 2^40: the month that it tells stands above its 8 bits.
+const TOLD_UNIT: u64 = 1_099_511_627_776;
 
 // The ten bytes of a record at the front of an output.
 fn put(output: &mut [u8], stored: [u8; 10])
@@ -27,8 +30,9 @@ fn put(output: &mut [u8], stored: [u8; 10])
     output[9] = stored[9];
 }
 
-// Stores one citation. The answer is the register day that it names, plus 2^32 times the refusal number; the output's
-// first ten bytes become its stored record, and the rest is left. Refused, the day is 0 and no byte changes.
+// Stores one citation. The answer is the register day that it names, plus 2^32 times the refusal number and 2^40 times
+// the month told with it; the output's first ten bytes become its stored record, and the rest is left. Refused, the day
+// is 0 and no byte changes.
 #[no_mangle]
 pub extern "C" fn chiselbrow_store(input: &[u8], output: &mut [u8]) -> u64
     ensures { λ r. ⌜ r ≡ answerOf (now (input .entry)) (length (now (output .entry))) ⌝ }
@@ -37,7 +41,7 @@ pub extern "C" fn chiselbrow_store(input: &[u8], output: &mut [u8]) -> u64
     let j = judge(input);
     let refusal = j.refusal as u64;
     if refusal != 0 {
-        return refusal * REFUSAL_UNIT;
+        return refusal * REFUSAL_UNIT + j.told as u64 * TOLD_UNIT;
     }
     if output.len() < 10 {
         return OUTPUT as u64 * REFUSAL_UNIT;

@@ -27,6 +27,7 @@ month-fits system year number leap v e z = go (subst (MonthOutcome system year n
     go (MonthOutcome.system-refused w f) = absurd (omega (arith, ap (λ m. m .refusal) f))
     go (MonthOutcome.year-refused i w f) = absurd (omega (arith, ap (λ m. m .refusal) f))
     go (MonthOutcome.month-refused s w f) = absurd (omega (arith, ap (λ m. m .refusal) f))
+    go (MonthOutcome.leap-refused s i w told l f) = absurd (omega (arith, ap (λ m. m .refusal) f))
     go (MonthOutcome.found m) =
         let c = constantsOf system in
         let w = within c (consistent system) (yearsElapsed c year) (m .k) (m .numbered .in-year) in

@@ -13,6 +13,8 @@ pub mod MonthSpanLaws
 pub mod RegisterLaws
 -- The month of a year with a number and a leap mark.
 pub mod MonthRequest
+-- How the leap month of a year is found.
+pub mod LeapMonthSearch
 -- The date of a register day.
 pub mod DateRequest
 -- The value that `year` returns holds the months of the reckoning.

@@ -8,6 +8,7 @@ use Rattle.calendar.specs.declared.data.Constants.{Constants}
 use Rattle.calendar.specs.Month.{monthHead}
 use Rattle.calendar.specs.Calendar.{Calendar}
 use Rattle.calendar.specs.ClosedForms.{dayOfQi, monthOfQi, qiOfNumber, leapFollows}
+use Rattle.calendar.specs.LeapMonth.{leapNumber}
 use Rattle.calendar.proofs.Reckoned.{reckoned, month-from, month-before}
 use Rattle.calendar.proofs.EveryCalendar.{Within, within-of-qi}
 use Rattle.reckoning.specs.declared.month_spans.MonthSpan.{MonthSpan}
@@ -15,8 +16,8 @@ use Rattle.reckoning.specs.MonthSpans.{monthSpan}
 use Rattle.reckoning.specs.WordBounds.{SpanFits, InRegister, YearInRegister}
 use Rattle.reckoning.specs.ComputedRefusals.{outside}
 use Rattle.reckoning.proofs.RefusalCases.{inside-of}
-use Rattle.reckoning.specs.Requests.{monthAt, noMonth, monthIn}
-use Rattle.reckoning.specs.RefusalNumbers.{MONTH}
+use Rattle.reckoning.specs.Requests.{monthAt, noMonthTelling, noMonth, monthIn}
+use Rattle.reckoning.specs.RefusalNumbers.{MONTH, LEAP}
 use Rattle.reckoning.proofs.MonthSpanLaws.{span-fits}
 
 module _ (c : Constants) (n number leap : ℕ) where
@@ -45,11 +46,13 @@ module _ (c : Constants) (n number leap : ℕ) where
 
   pub leap-lacks : outside 1 12 number ≡ false → outside 0 1 leap ≡ false → (leap ≡ 0 → ⊥)
       → leapFollows c n number ≡ false
-      → noMonth MONTH ≡ monthIn c n number leap
+      → (told : ℕ)
+      → told ≡ leapNumber c n
+      → noMonthTelling LEAP told ≡ monthIn c n number leap
   unfolding monthIn
-  leap-lacks e f z l =
+  leap-lacks e f z l told t =
       let one : 1 ≡ leap = omega (arith, inside-of 0 1 leap f) in
-      subst (λ x. noMonth MONTH ≡ monthIn c n number x) one (simp (e, l))
+      subst (λ x. noMonthTelling LEAP told ≡ monthIn c n number x) one (ap (noMonthTelling LEAP) t ∙ simp (e, l))
 
 -- Months of a year within the register, and whether a leap month follows one of them.
 module _ {c : Constants} {n : ℕ} (r : YearInRegister c n) (number : ℕ) {m : MonthSpan}

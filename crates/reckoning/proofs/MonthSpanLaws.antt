@@ -120,11 +120,11 @@ module _ {c : Constants} {m : MonthSpan} (s : SpanFits c m) where
 
   -- Month m as it is answered.
   pub answered-month : {r : RegisterDay} → r ≡ asRegisterDay (registerDay c (m .head))
-      → record { refusal = 0; head = r; length = m .next - m .head } ≡ monthAt c k
+      → record { refusal = 0; head = r; length = m .next - m .head; told = 0 } ≡ monthAt c k
   answered-month e =
       let head = e ∙ ap (λ d. asRegisterDay (registerDay c d)) head-is in
       let length = ap₂ (λ x y. x - y) next-is head-is in
-      λ j. record { refusal = 0; head = head j; length = length j }
+      λ j. record { refusal = 0; head = head j; length = length j; told = 0 }
 
   -- The month after it.
   pub span-after : {next : ℕ} → next ≡ monthHead c (k + 2)

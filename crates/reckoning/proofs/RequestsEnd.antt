@@ -4,19 +4,21 @@ use mathlib.Core.Path.{_≡_, refl, subst, sym, ap, _∙_}
 use mathlib.Core.Bool.{Bool, true, false, true≢false, _||_}
 use lib.Dec.{ltb, leb}
 use borrow.Author.Tests.{ltb-false, leb-false, le-ltb, lt-leb}
-use mathlib.Core.Logic.{inl, inr}
+use mathlib.Core.Logic.{inl, inr, ⊎-elim}
 use native.Mathlib.Omega.{arith}
 use Rattle.calendar.specs.Inside.{Inside}
 use Rattle.calendar.specs.Systems.{constantsOf, yearsElapsed}
 use Rattle.calendar.specs.Month.{monthHead}
-use Rattle.calendar.specs.Year.{Span, yearHead, nextHead, MonthNumbered}
+use Rattle.calendar.specs.Year.{Span, yearHead, nextHead, MonthNumbered, HasLeap}
 use Rattle.calendar.specs.ClosedForms.{monthOfDay, yearOfMonth, headOfYear, monthNumber, leapMark, monthCited, leapFollows}
+use Rattle.calendar.specs.LeapMonth.{leapNumber}
 use Rattle.calendar.proofs.EachSystem.{consistent}
 use Rattle.calendar.proofs.Cases.{by-bool}
 use Rattle.calendar.proofs.Rising.{by-order}
 use Rattle.calendar.proofs.Reckoned.{reckoned}
 use Rattle.calendar.proofs.Spans.{span, span-first, span-next, in-year, within}
 use Rattle.calendar.proofs.EveryCalendar.{in-its-year, years-rise, year-from, year-before}
+use Rattle.calendar.proofs.LeapMonths.{leap-number}
 use Rattle.calendar.proofs.Laws.{numbered, leap-follows, ordinary-cited, leap-cited}
 use Rattle.reckoning.specs.Scope.{SystemInScope, InScope, DayInScope}
 use Rattle.reckoning.specs.ComputedRefusals.{yearRefusal, dayWrong}
@@ -66,6 +68,7 @@ found-month system year number leap k s a b m e =
       not-refused = refl;
       head-is = omega arith;
       length-is = refl;
+      nothing-told = refl;
     }))
 
 month-refused : (system year number leap refusal : ℕ) → yearRefusal system year ≡ refusal → 0 < refusal
@@ -93,7 +96,7 @@ month-outcome system year number leap =
     (λ e no-number. O.MonthOutcome.month-refused s (inl no-number) (sym (number-wrong c n number leap e ∙ answer s)))
     (λ e number-inside.
     by-inside 0 1 leap
-    (λ f no-mark. O.MonthOutcome.month-refused s (inr (inl no-mark)) (sym (mark-wrong c n number leap e f ∙ answer s)))
+    (λ f no-mark. O.MonthOutcome.month-refused s (inr no-mark) (sym (mark-wrong c n number leap e f ∙ answer s)))
     (λ f mark-inside.
     by-order leap 1
     (λ l.
@@ -109,9 +112,15 @@ month-outcome system year number leap =
     (subst (λ x. MonthNumbered c n number x (monthCited c n number 1)) (sym one) (leap-cited c ok n number number-inside g))
     (leap-month c n number leap e f (λ z. omega arith) g ∙ answer s))
     (λ g.
-    O.MonthOutcome.month-refused s
-    (inr (inr (one, λ h. true≢false (sym (leap-follows c ok n number (h .month) (number-inside .at-most) (h .is-leap)) ∙ g))))
-    (sym (leap-lacks c n number leap e f (λ z. omega arith) g ∙ answer s)))))))
+    let no-leap : HasLeap c n number → ⊥ =
+    λ h. true≢false (sym (leap-follows c ok n number (h .month) (number-inside .at-most) (h .is-leap)) ∙ g)
+    in
+    O.MonthOutcome.leap-refused s
+    (⊎-elim (λ out. out number-inside) (λ out. out mark-inside))
+    (one, no-leap)
+    (leapNumber c n)
+    (leap-number c ok n)
+    (sym (leap-lacks c n number leap e f (λ z. omega arith) g (leapNumber c n) refl ∙ answer s)))))))
 
 neither : (a b c d : ℕ) → ltb a b || leb c d ≡ false → (b ≤ a) × (d < c)
 neither a b c d e = go (ltb a b) (leb c d) refl refl e

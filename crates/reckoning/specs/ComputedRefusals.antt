@@ -41,9 +41,13 @@ yearRefusal system year = first (wrongSystem system ∷ wrongYear year ∷ [])
 unfoldable pub qiRefusal : ℕ → ℕ → ℕ → ℕ
 qiRefusal system year i = first (wrongSystem system ∷ wrongYear year ∷ wrongQi i ∷ [])
 
--- Refusal MONTH: a number or mark that no month has, or a mark on a month that no leap month follows in year n.
-abbrev pub monthWrong : Constants → ℕ → ℕ → ℕ → Bool
-monthWrong c n number leap = outside 1 12 number || outside 0 1 leap || (eqb leap 1 && not (leapFollows c n number))
+-- Refusal MONTH: a number or a mark that no month has.
+abbrev pub monthWrong : ℕ → ℕ → Bool
+monthWrong number leap = outside 1 12 number || outside 0 1 leap
+
+-- Refusal LEAP: the mark, on a month that no leap month follows in year n.
+abbrev pub leapWrong : Constants → ℕ → ℕ → ℕ → Bool
+leapWrong c n number leap = eqb leap 1 && not (leapFollows c n number)
 
 -- Refusal DAY, of a register day: it lies outside years 1 to 3000, which end where year 3001 begins.
 abbrev pub dayWrong : Constants → ℕ → Bool

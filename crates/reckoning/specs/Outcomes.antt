@@ -4,13 +4,13 @@ use mathlib.Core.Path.{_≡_}
 use Rattle.calendar.specs.Inside.{Inside}
 use Rattle.calendar.specs.Systems.{constantsOf, yearsElapsed, IsRegisterDay}
 use Rattle.calendar.specs.Month.{monthHead, InMonth, monthLength}
-use Rattle.calendar.specs.Year.{Span, yearHead, yearLength, MonthNumbered}
+use Rattle.calendar.specs.Year.{Span, yearHead, yearLength, MonthNumbered, LeapNumber}
 use Rattle.reckoning.specs.declared.data.Days.{Days}
 use Rattle.reckoning.specs.declared.data.Month.{Month}
 use Rattle.reckoning.specs.declared.data.Date.{Date}
-use Rattle.reckoning.specs.Scope.{SystemInScope, YearInScope, InScope, NoSuchMonth, DayInScope}
-use Rattle.reckoning.specs.RefusalNumbers.{SYSTEM, YEAR, MONTH, DAY}
-use Rattle.reckoning.specs.Requests.{noDays, noMonth, noDate}
+use Rattle.reckoning.specs.Scope.{SystemInScope, YearInScope, InScope, NoSuchMonth, NotLeap, DayInScope}
+use Rattle.reckoning.specs.RefusalNumbers.{SYSTEM, YEAR, MONTH, DAY, LEAP}
+use Rattle.reckoning.specs.Requests.{noDays, noMonth, noMonthTelling, noDate}
 
 -- The days of a year, answered: its head and its length.
 pub record DaysFound (system year : ℕ) (v : Days) : Type 0 where
@@ -36,14 +36,22 @@ pub record MonthFound (system year number leap : ℕ) (v : Month) : Type 0 where
   pub not-refused : v .refusal ≡ 0
   pub head-is : IsRegisterDay (constantsOf system) (v .head .0) (monthHead (constantsOf system) k)
   pub length-is : v .length ≡ monthLength (constantsOf system) k
+  pub nothing-told : v .told ≡ 0
 
--- Refused SYSTEM, then YEAR, then MONTH; or answered.
+-- Refused SYSTEM, then YEAR, then MONTH, then LEAP with the number of the year's leap month; or answered.
 pub data MonthOutcome (system year number leap : ℕ) (v : Month) : Type 0 where
   system-refused : (SystemInScope system → ⊥) → v ≡ noMonth SYSTEM → MonthOutcome system year number leap v
   year-refused : SystemInScope system → (YearInScope year → ⊥) → v ≡ noMonth YEAR → MonthOutcome system year number leap v
   month-refused : InScope system year
-      → NoSuchMonth (constantsOf system) (yearsElapsed (constantsOf system) year) number leap
+      → NoSuchMonth number leap
       → v ≡ noMonth MONTH
+      → MonthOutcome system year number leap v
+  leap-refused : InScope system year
+      → (NoSuchMonth number leap → ⊥)
+      → NotLeap (constantsOf system) (yearsElapsed (constantsOf system) year) number leap
+      → (told : ℕ)
+      → LeapNumber (constantsOf system) (yearsElapsed (constantsOf system) year) told
+      → v ≡ noMonthTelling LEAP told
       → MonthOutcome system year number leap v
   found : MonthFound system year number leap v → MonthOutcome system year number leap v
 

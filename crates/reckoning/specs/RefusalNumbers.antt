@@ -21,7 +21,7 @@ SYSTEM = 4
 abbrev pub YEAR : ℕ
 YEAR = 5
 
--- The year has no such month.
+-- There is no such month.
 abbrev pub MONTH : ℕ
 MONTH = 6
 
@@ -36,3 +36,7 @@ OUTPUT = 8
 -- There is no such qi.
 abbrev pub QI : ℕ
 QI = 9
+
+-- The year has no such leap month.
+abbrev pub LEAP : ℕ
+LEAP = 10

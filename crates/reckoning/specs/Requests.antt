@@ -11,6 +11,7 @@ use Rattle.calendar.specs.SixtyDayName.{nameOf}
 use Rattle.calendar.specs.Qi.{solsticeDay, solsticeRemainder, qi, dayOf, partsOf, unitsOf}
 use Rattle.calendar.specs.Month.{monthHead}
 use Rattle.calendar.specs.ClosedForms.{monthOfDay, firstMonth, headOfYear, yearOfMonth, monthNumber, leapMark, monthCited}
+use Rattle.calendar.specs.LeapMonth.{leapNumber}
 use Rattle.reckoning.specs.declared.data.Solstice.{Solstice}
 use Rattle.reckoning.specs.declared.data.Qi.{Qi}
 use Rattle.reckoning.specs.declared.data.Year.{Year}
@@ -18,8 +19,8 @@ use Rattle.reckoning.specs.declared.data.Sheet.{Sheet}
 use Rattle.reckoning.specs.declared.data.Month.{Month}
 use Rattle.reckoning.specs.declared.data.Days.{Days}
 use Rattle.reckoning.specs.declared.data.Date.{Date}
-use Rattle.reckoning.specs.ComputedRefusals.{outside, yearRefusal, qiRefusal, monthWrong, dayWrong}
-use Rattle.reckoning.specs.RefusalNumbers.{SYSTEM, MONTH, DAY}
+use Rattle.reckoning.specs.ComputedRefusals.{outside, yearRefusal, qiRefusal, monthWrong, leapWrong, dayWrong}
+use Rattle.reckoning.specs.RefusalNumbers.{SYSTEM, MONTH, DAY, LEAP}
 use Rattle.reckoning.specs.Filled.{filled}
 
 abbrev pub asRegisterDay : ℕ → RegisterDay
@@ -121,16 +122,30 @@ noDays refusal = record { refusal = refusal; head = asRegisterDay 0; length = 0 
 unfoldable pub daysOf : ℕ → ℕ → Days
 daysOf system year = answerUnless (yearRefusal system year) system year daysIn noDays
 
--- The month of year n with a number and a leap mark; MONTH where there is none. Refused: zeros.
+-- The month of year n with a number and a leap mark; MONTH where no month has them, and then LEAP where the year has
+-- no such leap month. Refused: zeros, but LEAP tells the number of the year's leap month.
 abbrev pub monthAt : Constants → ℕ → Month
 monthAt c k =
-    record { refusal = 0; head = asRegisterDay (registerDay c (monthHead c k)); length = monthHead c (k + 1) - monthHead c k }
+    record {
+      refusal = 0;
+      head = asRegisterDay (registerDay c (monthHead c k));
+      length = monthHead c (k + 1) - monthHead c k;
+      told = 0;
+    }
+
+abbrev pub noMonthTelling : ℕ → ℕ → Month
+noMonthTelling refusal told = record { refusal = refusal; head = asRegisterDay 0; length = 0; told = told }
 
 abbrev pub noMonth : ℕ → Month
-noMonth refusal = record { refusal = refusal; head = asRegisterDay 0; length = 0 }
+noMonth refusal = noMonthTelling refusal 0
 
 unfoldable pub monthIn : Constants → ℕ → ℕ → ℕ → Month
-monthIn c n number leap = cond (monthWrong c n number leap) (noMonth MONTH) (monthAt c (monthCited c n number leap))
+monthIn c n number leap =
+    cond (monthWrong number leap)
+    (noMonth MONTH)
+    (cond (leapWrong c n number leap)
+    (noMonthTelling LEAP (leapNumber c n))
+    (monthAt c (monthCited c n number leap)))
 
 unfoldable pub monthOf : ℕ → ℕ → ℕ → ℕ → Month
 monthOf system year number leap =

@@ -1,5 +1,5 @@
--- What is in scope, and so when refusals SYSTEM, YEAR and MONTH apply, and DAY to a register day: paper 01, "Numbered
--- refusals".
+-- What is in scope, and so when refusals SYSTEM, YEAR, MONTH and LEAP apply, and DAY to a register day: paper 01,
+-- "Numbered refusals", and paper 02, Q-3.
 use Prim.Native.Nat.{ℕ, _+_, _≤_, _<_}
 use mathlib.Core.Path.{_≡_}
 use mathlib.Core.Logic.{_⊎_}
@@ -21,10 +21,13 @@ pub record InScope (system year : ℕ) : Type 0 where
   pub system-inside : SystemInScope system
   pub year-inside : YearInScope year
 
--- Refusal MONTH: a number or leap mark that no month has, or a leap mark where year n has no leap month of that number.
-abbrev pub NoSuchMonth : Constants → ℕ → ℕ → ℕ → Type 0
-NoSuchMonth c n number leap =
-    (Inside 1 12 number → ⊥) ⊎ ((Inside 0 1 leap → ⊥) ⊎ ((leap ≡ 1) × (HasLeap c n number → ⊥)))
+-- Refusal MONTH: a number or a leap mark that no month has.
+abbrev pub NoSuchMonth : ℕ → ℕ → Type 0
+NoSuchMonth number leap = (Inside 1 12 number → ⊥) ⊎ (Inside 0 1 leap → ⊥)
+
+-- Refusal LEAP: the leap mark, where year n has no leap month of that number.
+abbrev pub NotLeap : Constants → ℕ → ℕ → ℕ → Type 0
+NotLeap c n number leap = (leap ≡ 1) × (HasLeap c n number → ⊥)
 
 -- The register days of years 1 to 3000, by the heads of years 1 and 3001; refusal DAY is for any other.
 pub record DayInScope (system r : ℕ) : Type 0 where

@@ -43,6 +43,13 @@ pub record YearInRegister (c : Constants) (n : ℕ) : Type 0 where
   pub qi-day : (i : ℕ) → i ≤ 23 → InRegister c (dayOf c (qi c n i))
   pub head : (k : ℕ) → firstMonth c n ≤ k → k ≤ firstMonth c (n + 1) → InRegister c (monthHead c k)
 
+-- Year n and its first month, with room for sixteen middle qi and months from there.
+pub record YearFrom (c : Constants) (n first : ℕ) : Type 0 where
+  pub constants-fit : ConstantsFit c
+  pub elapsed : n < 2 ^ 28
+  pub is-first : first ≡ firstMonth c n
+  pub small : first < 2 ^ 31
+
 -- `count` months from month `first` on, and the head after them, lie within the register.
 pub record MonthsInRegister (c : Constants) (first count : ℕ) : Type 0 where
   pub constants-fit : ConstantsFit c

@@ -32,11 +32,13 @@ pub struct Sheet {
     pub names: [u8; 384],
 }
 
-// A month: its first day and how many days it has.
+// A month: its first day and how many days it has. Refused LEAP, and only then, `told` tells the number of the
+// year's leap month, 0 if the year has none; otherwise it is 0.
 pub struct Month {
     pub refusal: u8,
     pub head: RegisterDay,
     pub length: u8,
+    pub told: u8,
 }
 
 // The days of a year: the first, and how many.

@@ -21,6 +21,7 @@ mod asked;
 mod closed_forms;
 pub mod data;
 mod dates;
+mod leap_months;
 mod month_spans;
 mod months;
 mod names;
@@ -112,7 +113,8 @@ pub fn days(system: u32, year: u32) -> Days
     year_days::of_common_year(jiyuan(), year)
 }
 
-// The month of a year with a number and a leap mark; refused MONTH where the year has none.
+// The month of a year with a number and a leap mark; refused MONTH where no month has them, and LEAP, with the number
+// of the year's leap month, where the year has no such leap month.
 pub fn month(system: u32, year: u32, number: u32, leap: u32) -> Month
     ensures { λ r. ⌜ r ≡ monthOf system year number leap ⌝ }
 {

@@ -2,7 +2,7 @@
 ghost use mathlib.Core.Path.{_≡_};
 ghost use Rattle.calendar.specs.Systems.{yearsElapsed};
 ghost use Rattle.reckoning.specs.MonthSpans.{monthSpan};
-ghost use Rattle.reckoning.specs.Requests.{monthsFrom, yearIn, monthAt, noMonth, monthIn};
+ghost use Rattle.reckoning.specs.Requests.{monthsFrom, yearIn, monthAt, noMonthTelling, noMonth, monthIn};
 ghost use Rattle.reckoning.specs.WordBounds.{InRegister, SpanFits, MonthsInRegister, YearInRegister};
 use crate::closed_forms::day_of_qi;
 use crate::closed_forms::number_of_qi;
@@ -10,12 +10,14 @@ use crate::closed_forms::register_day;
 use crate::closed_forms::years_elapsed;
 use crate::data::Month;
 use crate::data::Year;
+use crate::leap_months;
 use crate::month_spans::MonthSpan;
 use crate::month_spans::after;
 use crate::month_spans::first_of_year;
 use crate::month_spans::last_qi;
 use crate::month_spans::of_qi;
 use crate::refusal::outside;
+use crate::refusal_numbers::LEAP;
 use crate::refusal_numbers::MONTH;
 use calendar::data::Constants;
 use calendar::data::RegisterDay;
@@ -70,17 +72,26 @@ fn at(c: Constants, m: MonthSpan) -> Month
         refusal: 0,
         head: register_day(c, m.head),
         length: length,
+        told: 0,
+    }
+}
+
+// No month; with LEAP, the number of the year's leap month is told.
+fn none_telling(refusal: u8, told: u8) -> Month
+    ensures { λ r. ⌜ r ≡ noMonthTelling refusal told ⌝ }
+{
+    Month {
+        refusal: refusal,
+        head: RegisterDay(0),
+        length: 0,
+        told: told,
     }
 }
 
 pub(crate) fn none(refusal: u8) -> Month
     ensures { λ r. ⌜ r ≡ noMonth refusal ⌝ }
 {
-    Month {
-        refusal: refusal,
-        head: RegisterDay(0),
-        length: 0,
-    }
+    none_telling(refusal, 0)
 }
 
 // The month of year n with a number and a leap mark.
@@ -102,7 +113,7 @@ fn month_of_year(c: Constants, n: u64, number: u32, leap: u32) -> Month
     let next = after(c, m);
     // Not leap: it holds the next middle qi.
     if day_of_qi(c, g + 1) < next.next {
-        return none(MONTH);
+        return none_telling(LEAP, leap_months::number(c, n));
     }
     at(c, next)
 }

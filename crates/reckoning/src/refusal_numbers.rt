@@ -17,3 +17,5 @@ pub const DAY: u8 = 7;
 pub const OUTPUT: u8 = 8;
 
 pub const QI: u8 = 9;
+
+pub const LEAP: u8 = 10;

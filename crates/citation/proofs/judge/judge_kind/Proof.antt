@@ -1,5 +1,8 @@
-use mathlib.Core.Path.{refl}
+use Prim.Native.Nat.{ℕ}
+use mathlib.Core.Path.{_≡_, refl}
+use mathlib.Core.List.{List}
 use native.Mathlib.Omega.{arith}
+use Rattle.citation.specs.Record.{systemOf, yearField, monthField, leapField}
 use Rattle.citation.specs.JudgeParts.{Whole}
 use Rattle.citation.proofs.JudgementCases.{kind-one-or-two, kind-one, kind-two}
 use Rattle.citation.proofs.OrdinalByDate.{named-refused, named-accepted}
@@ -7,9 +10,13 @@ use borrow.Author.Needs.{needs}
 use Rattle.citation.proofs.judge.judge_kind.Statement.{statement}
 use Rattle.citation.proofs.judge.judge_kind.Tie as tie
 
--- The places that a refused month goes back to, each from the one after it, and what is known of the record there.
+-- The places that a month refused or found goes back to, each from the one after it, and what is known of the record
+-- there.
 abbrev month-read : tie.Then2 → tie.After-month
 month-read c = c .before .before
+
+abbrev month-found : tie.Else2 → tie.After-month
+month-found c = c .before .before
 
 abbrev fields-read : tie.After-month → tie.After-le16
 fields-read c = c .before .before .before .before .before
@@ -19,6 +26,16 @@ by-month c = c .before .before .before
 
 abbrev start : tie.Then1 → tie.Start
 start c = c .before .before .before .before
+
+abbrev bytes : tie.After-month → List ℕ
+bytes c = start (by-month (fields-read c)) .args .s .now
+
+fields-known : (c : tie.After-month)
+    → (by-month (fields-read c) .before .wide .result ≡ systemOf (bytes c))
+    × (fields-read c .le16 .result ≡ yearField (bytes c))
+    × (c .before .before .before .wide2 .result ≡ monthField (bytes c))
+    × (c .before .wide3 .result ≡ leapField (bytes c))
+fields-known c = (omega arith, omega arith, omega arith, omega arith)
 
 kind-known : (c : tie.After-month) → let start = start (by-month (fields-read c)) in Whole (start .args .s .now) (start .args .kind)
 kind-known c = start (by-month (fields-read c)) .pre
@@ -53,14 +70,14 @@ wide-requires-3 c κs = search needs
 month-requires : tie.Need-month-requires
 month-requires c κs = search needs
 
-refuse-requires : tie.Need-refuse-requires
-refuse-requires c κs = search needs
+refuse-telling-requires : tie.Need-refuse-telling-requires
+refuse-telling-requires c κs = search needs
 
 returns : tie.Need-returns
 returns c =
     kind-one-or-two _ (omega arith) (omega (arith, kind-known (month-read (c .before)))) (month-read (c .before) .month .ensures)
     (c .before .if2 .taken)
-    (c .refuse .ensures)
+    (c .refuse-telling .ensures)
     (omega arith)
     (omega arith)
     (omega arith)
@@ -75,7 +92,15 @@ judge-day-requires : tie.Need-judge-day-requires
 judge-day-requires c κs = search needs
 
 returns-2 : tie.Need-returns-2
-returns-2 c = kind-one _ (omega arith) (omega arith) (c .judge-day .ensures) (omega arith) (omega arith) (omega arith) (omega arith)
+returns-2 c =
+    let one = c .before .before .before in
+    let month = month-found (one .before) in
+    let fields = fields-known month in
+    kind-one _ (fields .0) (omega (arith, one .if3 .taken, kind-known month)) (c .judge-day .ensures)
+    (fields .1)
+    (fields .2)
+    (fields .3)
+    (omega arith)
 
 shared-slice-read-t13 : tie.Need-shared-slice-read-t13
 shared-slice-read-t13 c = search needs
@@ -84,17 +109,25 @@ judge-name-requires : tie.Need-judge-name-requires
 judge-name-requires c κs = search needs
 
 returns-3 : tie.Need-returns-3
-returns-3 c = kind-two _ (omega arith) (omega arith) (c .judge-name .ensures) (omega arith) (omega arith) (omega arith) refl
+returns-3 c =
+    let two = c .before .before in
+    let month = month-found (two .before) in
+    let fields = fields-known month in
+    kind-two _ (fields .0) (omega (arith, two .if3 .left, by-month (fields-read month) .if1 .taken, kind-known month)) (c .judge-name .ensures)
+    (fields .1)
+    (fields .2)
+    (fields .3)
+    refl
 
 named-day-requires : tie.Need-named-day-requires
 named-day-requires c κs = search needs
 
-refuse-requires-2 : tie.Need-refuse-requires-2
-refuse-requires-2 c κs = search needs
+refuse-requires : tie.Need-refuse-requires
+refuse-requires c κs = search needs
 
 returns-4 : tie.Need-returns-4
 returns-4 c =
-    named-refused _ (omega arith) (c .before .before .before .named-day .ensures) (c .before .if4 .taken) (c .refuse2 .ensures)
+    named-refused _ (omega arith) (c .before .before .before .named-day .ensures) (c .before .if4 .taken) (c .refuse .ensures)
 
 judge-dated-requires : tie.Need-judge-dated-requires
 judge-dated-requires c κs = search needs
@@ -117,7 +150,7 @@ judge-kind-spec =
     shared-slice-read-wide-3
     wide-requires-3
     month-requires
-    refuse-requires
+    refuse-telling-requires
     returns
     shared-slice-read-wide-4
     wide-requires-4
@@ -127,7 +160,7 @@ judge-kind-spec =
     judge-name-requires
     returns-3
     named-day-requires
-    refuse-requires-2
+    refuse-requires
     returns-4
     judge-dated-requires
     returns-5)

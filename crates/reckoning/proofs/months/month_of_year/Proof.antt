@@ -88,18 +88,23 @@ add-day-of-qi c = search needs
 day-of-qi-requires : tie.Need-day-of-qi-requires
 day-of-qi-requires c κs = search needs
 
-none-requires-3 : tie.Need-none-requires-3
-none-requires-3 c κs = search needs
+number-requires : tie.Need-number-requires
+number-requires c κs = search needs
+
+none-telling-requires : tie.Need-none-telling-requires
+none-telling-requires c κs = search needs
 
 returns-4 : tie.Need-returns-4
 returns-4 c =
-    let day = none-after (c .before) in
+    let told = c .before in
+    let day = none-after (told .before) in
     let next = day .before in
     let passed = mark-passed (month next) in
     let start = start (inside passed) in
     let month-is = month next .of-qi .ensures in
-    let lacks = none-follows (start .pre) (start .args .number) month-is (next .after .ensures) (day .day-of-qi .ensures) (c .before .if4 .taken) in
-    c .none3 .ensures ∙ leap-lacks _ _ _ _ (number-inside (inside passed)) (mark-inside passed) (next .before .if3 .left) lacks
+    let lacks = none-follows (start .pre) (start .args .number) month-is (next .after .ensures) (day .day-of-qi .ensures) (told .before .if4 .taken) in
+    c .none-telling .ensures
+    ∙ leap-lacks _ _ _ _ (number-inside (inside passed)) (mark-inside passed) (next .before .if3 .left) lacks _ (told .number .ensures)
 
 at-requires-2 : tie.Need-at-requires-2
 at-requires-2 c κs = search (next-fits, next-in-register)
@@ -137,7 +142,8 @@ month-of-year-spec =
     after-requires
     add-day-of-qi
     day-of-qi-requires
-    none-requires-3
+    number-requires
+    none-telling-requires
     returns-4
     at-requires-2
     returns-5)

@@ -1,0 +1,155 @@
+-- The leap month of a year: its number, and how it is found.
+use Prim.Native.Nat.{ℕ, zero, suc, _+_, _*_, _%_, _≤_, _<_}
+use mathlib.Core.Path.{_≡_, refl, subst, sym, ap, _∙_}
+use mathlib.Core.Bool.{Bool, true, false, true≢false}
+use mathlib.Core.Logic.{_⊎_, inl, inr, ⊎-elim, _↔_}
+use native.Mathlib.Omega.{arith}
+use borrow.Author.Tests.{lt-ltb, ltb-true, ltb-false}
+use Rattle.calendar.specs.declared.data.Constants.{Constants}
+use Rattle.calendar.specs.Inside.{Inside}
+use Rattle.calendar.specs.Month.{Lacks, numberOf}
+use Rattle.calendar.specs.Year.{InYear, HasLeap, LeapNumber}
+use Rattle.calendar.specs.Consistent.{Consistent}
+use Rattle.calendar.specs.Calendar.{Calendar}
+use Rattle.calendar.specs.ClosedForms.{monthOfQi, firstMonth, monthNumber, qiOfNumber, monthCited, leapFollows}
+use Rattle.calendar.specs.LeapMonth.{lastLeap, leapNumber, inStep, further, lastPlace, leapPlace}
+use Rattle.calendar.proofs.Cases.{by-bool}
+use Rattle.calendar.proofs.Rising.{by-order, even-rise}
+use Rattle.calendar.proofs.Reckoned.{reckoned}
+use Rattle.calendar.proofs.Spans.{span}
+use Rattle.calendar.proofs.Numbers.{number-unique, mark-unique}
+use Rattle.calendar.proofs.Laws.{year-months, twelve-none-lacks, thirteen-one-leap, leap-follows, leap-cited, number-inside}
+
+-- Halving: the test holds at a place, and not so much further on, unless that is past the end.
+record Between (p : ℕ → Bool) (at width : ℕ) : Type 0 where
+  here : p at ≡ true
+  beyond : at + width < 16 → p (at + width) ≡ false
+
+module _ (p : ℕ → Bool) where
+  halve : (at width : ℕ) → Between p at (width + width) → Between p (further p at width) width
+  halve at width b =
+      by-bool (p (at + width))
+      (λ e.
+      let moved : further p at width ≡ at + width = simp e in
+      let same : at + (width + width) ≡ at + width + width = omega arith in
+      subst (λ x. Between p x width) (sym moved)
+      (record { here = e; beyond = λ l. subst (λ x. p x ≡ false) same (b .beyond (omega arith)) }))
+      (λ e.
+      let stays : further p at width ≡ at = simp e in
+      subst (λ x. Between p x width) (sym stays) (record { here = b .here; beyond = λ l. e }))
+
+  found : p 0 ≡ true → Between p (lastPlace p) 1
+  found e = halve _ 1 (halve _ 2 (halve _ 4 (halve 0 8 (record { here = e; beyond = λ l. absurd (omega arith) }))))
+
+module _ (c : Constants) (ok : Consistent c) where
+  abbrev K : Calendar
+  K = reckoned c ok
+
+  lacks : {n number : ℕ} → (h : HasLeap c n number) → InYear c n (h .month) × Lacks c (h .month)
+  lacks h = (h .is-leap .in-year, ⊎-elim (λ p. absurd (omega (arith, p .0))) (λ p. p .1) (h .is-leap .marked))
+
+  -- A year of twelve months has no leap month,
+  none-of-twelve : (n number : ℕ) → firstMonth c (n + 1) ≡ firstMonth c n + 12 → HasLeap c n number → ⊥
+  none-of-twelve n number e h =
+      lacks h .1 (twelve-none-lacks c ok (span c ok n) (omega arith) (h .month) (lacks h .0))
+
+  -- and one of thirteen has one.
+  leap-unique : (n a b : ℕ) → HasLeap c n a → HasLeap c n b → a ≡ b
+  leap-unique n a b g h =
+      ⊎-elim
+      (λ twelve. absurd (none-of-twelve n a (omega arith) g))
+      (λ thirteen.
+      let one = thirteen-one-leap c ok (span c ok n) thirteen in
+      let same = one .only (g .month) (lacks g) ∙ sym (one .only (h .month) (lacks h)) in
+      number-unique c ok (g .is-leap .bears) ∙ ap (monthNumber c) same ∙ sym (number-unique c ok (h .is-leap .bears)))
+      (year-months c ok (span c ok n))
+
+  leap-inside : (n number : ℕ) → HasLeap c n number → Inside 1 12 number
+  leap-inside n number h = number-inside c ok n number 1 (h .month) (h .is-leap)
+
+  -- What is told is one number only, and 0 just when there is no leap month.
+  pub leap-number-unique : (n a b : ℕ) → LeapNumber c n a → LeapNumber c n b → a ≡ b
+  leap-number-unique n a b p q =
+      ⊎-elim
+      (λ g. ⊎-elim (λ h. leap-unique n a b g h) (λ h. absurd (h .1 a g)) q)
+      (λ g. ⊎-elim (λ h. absurd (g .1 b h)) (λ h. g .0 ∙ sym (h .0)) q)
+      p
+
+  pub zero-just-when-none : (n told : ℕ) → LeapNumber c n told → (told ≡ 0) ↔ ((number : ℕ) → HasLeap c n number → ⊥)
+  zero-just-when-none n told p = (
+    λ e. ⊎-elim (λ h. absurd (omega (arith, leap-inside n told h))) (λ h. h .1) p,
+    λ none. ⊎-elim (λ h. absurd (none told h)) (λ h. h .0) p,
+  )
+
+  -- The number found is that number.
+  has-leap : (n number : ℕ) → Inside 1 12 number → leapFollows c n number ≡ true → HasLeap c n number
+  has-leap n number i e = record { month = monthCited c n number 1; is-leap = leap-cited c ok n number i e }
+
+  found-to : (n most : ℕ) → most ≤ 12
+      → (HasLeap c n (lastLeap c n most)) ⊎ ((lastLeap c n most ≡ 0) × ((number : ℕ) → number ≤ most → HasLeap c n number → ⊥))
+  unfolding lastLeap
+  found-to n zero l = inr (refl, λ number m h. omega (arith, leap-inside n number h))
+  found-to n (suc most) l =
+      by-bool (leapFollows c n (suc most))
+      (λ e. inl (subst (HasLeap c n) (sym (simp e)) (has-leap n (suc most) (omega arith) e)))
+      (λ e.
+      let passed : lastLeap c n (suc most) ≡ lastLeap c n most = simp e in
+      let not-here : HasLeap c n (suc most) → ⊥ =
+      λ h. true≢false (sym (leap-follows c ok n (suc most) (h .month) l (h .is-leap)) ∙ e)
+      in
+      ⊎-elim
+      (λ h. inl (subst (HasLeap c n) (sym passed) h))
+      (λ none.
+      inr (
+        passed ∙ none .0,
+        λ number m h.
+            by-order number (suc most)
+            (λ below. none .1 number (omega arith) h)
+            (λ above. let same : number ≡ suc most = omega arith in not-here (subst (HasLeap c n) same h)),
+      ))
+      (found-to n most (omega arith)))
+
+  pub leap-number : (n : ℕ) → LeapNumber c n (leapNumber c n)
+  leap-number n =
+      ⊎-elim
+      inl
+      (λ none. inr (none .0, λ number h. none .1 number (leap-inside n number h .at-most) h))
+      (found-to n 12 (omega arith))
+
+  -- The place halved down to tells it.
+  place-found : (n : ℕ) → Between (inStep c n) (leapPlace c n) 1
+  unfolding leapPlace
+  place-found n =
+      let e : 12 * n + 0 ≡ 12 * n = omega arith in
+      found (inStep c n) (lt-ltb (monthOfQi c (12 * n + 0)) (firstMonth c n + 0 + 1) (omega (arith, ap (monthOfQi c) e)))
+
+  in-step : (n i : ℕ) → inStep c n i ≡ true → monthOfQi c (12 * n + i) < firstMonth c n + i + 1
+  in-step n i e = ltb-true (monthOfQi c (12 * n + i)) (firstMonth c n + i + 1) e
+
+  ahead : (n i : ℕ) → inStep c n i ≡ false → firstMonth c n + i + 1 ≤ monthOfQi c (12 * n + i)
+  ahead n i e = ltb-false (monthOfQi c (12 * n + i)) (firstMonth c n + i + 1) e
+
+  -- up to it the months keep step with the middle qi
+  place-kept : (n i : ℕ) → i ≤ leapPlace c n → monthOfQi c (12 * n + i) ≡ firstMonth c n + i
+  place-kept n i l =
+      even-rise (monthOfQi c) (K .qi-rises) (leapPlace c n) i (12 * n) (omega (arith, in-step n (leapPlace c n) (place-found n .here)))
+      l
+
+  pub number-at-place : (n : ℕ) → leapPlace c n < 12 → numberOf (leapPlace c n % 12) ≡ leapNumber c n
+  number-at-place n l =
+      let at = leapPlace c n in
+      let number = numberOf (at % 12) in
+      let beyond = ahead n (at + 1) (place-found n .beyond (omega arith)) in
+      let qi : qiOfNumber n number ≡ 12 * n + at = omega arith in
+      let next : qiOfNumber n number + 1 ≡ 12 * n + (at + 1) = omega arith in
+      let follows : leapFollows c n number ≡ true =
+      lt-ltb (monthOfQi c (qiOfNumber n number) + 1) (monthOfQi c (qiOfNumber n number + 1))
+      (omega (arith, ap (monthOfQi c) qi, ap (monthOfQi c) next, place-kept n at (omega arith)))
+      in
+      leap-number-unique n number (leapNumber c n) (inl (has-leap n number (omega arith) follows)) (leap-number n)
+
+  pub number-past-places : (n : ℕ) → 12 ≤ leapPlace c n → 0 ≡ leapNumber c n
+  number-past-places n l =
+      let e : 12 * (n + 1) ≡ 12 * n + 12 = omega arith in
+      let twelve : firstMonth c (n + 1) ≡ firstMonth c n + 12 = ap (monthOfQi c) e ∙ place-kept n 12 l in
+      leap-number-unique n 0 (leapNumber c n) (inr (refl, λ number h. none-of-twelve n number twelve h)) (leap-number n)
