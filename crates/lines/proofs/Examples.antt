@@ -1,7 +1,9 @@
--- The run that paper 01 shows, as paper 02, Q-2, has it, computed: the four records of case 9 and a byte 00.
+-- Runs, computed: the one that paper 01 shows, as paper 02, Q-2, has it (the four records of case 9 and a byte 00), and
+-- records that paper 02, Q-3, refuses.
 use mathlib.Core.Path.{_≡_, refl}
 use mathlib.Core.List.{List, [], _∷_, _++_}
 use Prim.Native.Nat.{ℕ}
+use Rattle.calendar.specs.LeapMonth.{lastLeap}
 use Rattle.reckoning.specs.ComputedRefusals.{yearRefusal}
 use Rattle.reckoning.specs.Requests.{daysOf, monthOf, monthIn, dateOf, dateIn}
 use Rattle.citation.specs.Store.{judgeRegisterDay, judgeOrdinal, judgeDay, judgeName, judgeKind, lengthRight, judgeOf}
@@ -22,11 +24,36 @@ abbrev pub day-line : List ℕ
 day-line =
     71 ∷ 32 ∷ 49 ∷ 48 ∷ 57 ∷ 52 ∷ 32 ∷ 53 ∷ 32 ∷ 49 ∷ 32 ∷ 50 ∷ 49 ∷ 50 ∷ 48 ∷ 56 ∷ 48 ∷ 56 ∷ 32 ∷ 51 ∷ 55 ∷ 10 ∷ []
 
+-- "refused " and more
+abbrev refused : List ℕ → List ℕ
+refused rest = 114 ∷ 101 ∷ 102 ∷ 117 ∷ 115 ∷ 101 ∷ 100 ∷ 32 ∷ rest
+
 -- "refused 1"
 abbrev pub last-line : List ℕ
-last-line = 114 ∷ 101 ∷ 102 ∷ 117 ∷ 115 ∷ 101 ∷ 100 ∷ 32 ∷ 49 ∷ 10 ∷ []
+last-line = refused (49 ∷ 10 ∷ [])
 
 pub shown-run : outputOf (case-9 ++ 0x00 ∷ []) ≡ day-line ++ day-line ++ day-line ++ day-line ++ last-line
 unfolding framingWithin linesOf lineOf storedLine year month word field fields decimal
     judgeOf lengthRight judgeKind judgeDay judgeName judgeOrdinal judgeRegisterDay yearRefusal daysOf monthOf monthIn dateOf dateIn
 shown-run = refl
+
+-- Leap 5 in Guantian 1094, by date and by name, and in Guantian 1092; month 13 with leap 1; leap byte 2.
+abbrev pub leap-months : List ℕ
+leap-months =
+    (0x0A ∷ 0x00 ∷ 0x01 ∷ 0x00 ∷ 0x01 ∷ 0x46 ∷ 0x04 ∷ 0x05 ∷ 0x01 ∷ 0x01 ∷ [])
+    ++ (0x0A ∷ 0x00 ∷ 0x02 ∷ 0x00 ∷ 0x01 ∷ 0x46 ∷ 0x04 ∷ 0x05 ∷ 0x01 ∷ 0x25 ∷ [])
+    ++ (0x0A ∷ 0x00 ∷ 0x01 ∷ 0x00 ∷ 0x01 ∷ 0x44 ∷ 0x04 ∷ 0x05 ∷ 0x01 ∷ 0x01 ∷ [])
+    ++ (0x0A ∷ 0x00 ∷ 0x01 ∷ 0x00 ∷ 0x01 ∷ 0x46 ∷ 0x04 ∷ 0x0D ∷ 0x01 ∷ 0x01 ∷ [])
+    ++ (0x0A ∷ 0x00 ∷ 0x01 ∷ 0x00 ∷ 0x01 ∷ 0x46 ∷ 0x04 ∷ 0x05 ∷ 0x02 ∷ 0x01 ∷ [])
+
+-- "refused 10 4" and "refused 10 0"; "refused 6"
+abbrev pub telling-line : ℕ → List ℕ
+telling-line digit = refused (49 ∷ 48 ∷ 32 ∷ digit ∷ 10 ∷ [])
+
+abbrev pub month-line : List ℕ
+month-line = refused (54 ∷ 10 ∷ [])
+
+pub refused-run : outputOf leap-months ≡ telling-line 52 ++ telling-line 52 ++ telling-line 48 ++ month-line ++ month-line
+unfolding framingWithin linesOf lineOf storedLine word field fields decimal
+    judgeOf lengthRight judgeKind judgeDay judgeName yearRefusal monthOf monthIn lastLeap
+refused-run = refl

@@ -12,15 +12,15 @@ use Rattle.citation.specs.Store.{judgeOf}
 use Rattle.calendar.proofs.Cases.{by-bool}
 use Rattle.calendar.specs.declared.data.DayName.{DayName}
 use Rattle.calendar.specs.SixtyDayName.{nameOf}
-use Rattle.reckoning.specs.RefusalNumbers.{SHORT}
+use Rattle.reckoning.specs.RefusalNumbers.{SHORT, LEAP}
 use Rattle.citation.specs.Record.{systemOf, yearField, monthField, leapField, dayField}
-use Rattle.text.specs.Piece.{year, month, line, refusedLine}
+use Rattle.text.specs.Piece.{year, month, line, refusedLine, refusedTellingLine}
 use Rattle.text.specs.Wrote.{Wrote}
 use Rattle.text.proofs.Lengths.{year-length, month-length, line-length}
 use Rattle.text.proofs.Writing.{wrote-as}
 use Rattle.text.specs.Put.{Put}
 use Rattle.text.proofs.Putting.{Puts, put-nothing}
-use Rattle.lines.specs.Line.{words, storedLine, lineOf}
+use Rattle.lines.specs.Line.{words, storedLine, refusalLine, lineOf}
 use Rattle.lines.specs.Program.{endingOf}
 
 -- The words of a stored record and its day make its line.
@@ -36,20 +36,28 @@ told-stored stored r year-is name-is w =
 -- The line of a record by its judgement.
 module _ (s : List ℕ) (j : Judgement) (e : j ≡ judgeOf s) where
   abbrev line-by : Judgement → List ℕ
-  line-by x = cond (eqb (x .refusal) 0) (storedLine (x .stored) (x .day .0)) (refusedLine (x .refusal))
+  line-by x = cond (eqb (x .refusal) 0) (storedLine (x .stored) (x .day .0)) (refusalLine (x .refusal) (x .told))
 
-  pub line-refused : (j .refusal ≡ 0 → ⊥) → refusedLine (j .refusal) ≡ lineOf s
+  pub line-refused : (j .refusal ≡ 0 → ⊥) → refusalLine (j .refusal) (j .told) ≡ lineOf s
   unfolding lineOf
-  line-refused h = subst (λ x. refusedLine (j .refusal) ≡ line-by x) e (simp (ne-eqb (j .refusal) 0 h))
+  line-refused h = subst (λ x. refusalLine (j .refusal) (j .told) ≡ line-by x) e (simp (ne-eqb (j .refusal) 0 h))
 
   pub line-accepted : j .refusal ≡ 0 → storedLine (j .stored) (j .day .0) ≡ lineOf s
   unfolding lineOf
   line-accepted h = subst (λ x. storedLine (j .stored) (j .day .0) ≡ line-by x) e (simp (eq-eqb (j .refusal) 0 h))
 
+-- A refusal's line is put with the month told, or without.
+module _ {b a : List ℕ} {at end : ℕ} (number told : ℕ) where
+  pub put-telling : number ≡ LEAP → Puts b at 64 (refusedTellingLine number told) a end → Puts b at 64 (refusalLine number told) a end
+  put-telling h w = simp (eq-eqb number LEAP h) w
+
+  pub put-plain : (number ≡ LEAP → ⊥) → Puts b at 64 (refusedLine number) a end → Puts b at 64 (refusalLine number told) a end
+  put-plain h w = simp (ne-eqb number LEAP h) w
+
 pub wrote-refused : {b a : List ℕ} {at end : ℕ} {j : Judgement} (s : List ℕ) → j ≡ judgeOf s → (j .refusal ≡ 0 → ⊥)
-    → Puts b at 64 (refusedLine (j .refusal)) a end
-    → Puts b at 64 (lineOf s) a end
-wrote-refused {b} {a} {at} {end} {j} s e h w = subst (λ t. Puts b at 64 t a end) (line-refused s j e h) w
+    → Wrote b at (refusalLine (j .refusal) (j .told)) a end
+    → Wrote b at (lineOf s) a end
+wrote-refused {j = j} s e h w = wrote-as (line-refused s j e h) w
 
 pub wrote-accepted : {b a : List ℕ} {at end : ℕ} {j : Judgement} (s : List ℕ) → j ≡ judgeOf s → j .refusal ≡ 0
     → Wrote b at (storedLine (j .stored) (j .day .0)) a end
@@ -73,13 +81,20 @@ stored-length : (stored : List ℕ) (r : ℕ) → length (storedLine stored r) �
 unfolding storedLine
 stored-length stored r = words-length _ _ _ _ _ _ _
 
+refusal-length : (number told : ℕ) → length (refusalLine number told) ≤ 64
+refusal-length number told =
+    let refused = line-length (114 ∷ 101 ∷ 102 ∷ 117 ∷ 115 ∷ 101 ∷ 100 ∷ []) in
+    by-bool (eqb number LEAP)
+    (λ e. simp e (omega (arith, refused (number ∷ told ∷ []))))
+    (λ e. simp e (omega (arith, refused (number ∷ []))))
+
 pub line-short : (s : List ℕ) → length (lineOf s) ≤ 64
 unfolding lineOf
 line-short s =
     let j = judgeOf s in
     by-bool (eqb (j .refusal) 0)
     (λ e. simp e (stored-length (j .stored) (j .day .0)))
-    (λ e. simp e (omega (arith, line-length (114 ∷ 101 ∷ 102 ∷ 117 ∷ 115 ∷ 101 ∷ 100 ∷ []) (j .refusal ∷ []))))
+    (λ e. simp e (refusal-length (j .refusal) (j .told)))
 
 -- The line for bytes that are no record, by whether there are any.
 module _ (rest : List ℕ) where

@@ -6,16 +6,16 @@ use native.Mathlib.Omega.{arith}
 use Rattle.reckoning.specs.WordedRefusals.{FirstOf}
 use Rattle.citation.specs.Record.{systemOf, recordOf}
 use Rattle.citation.specs.DayCited.{NamesDay, OnDate}
-use Rattle.citation.specs.CitationRefusals.{citationRows, Accepted}
+use Rattle.citation.specs.CitationRefusals.{citationRows, Accepted, Tells}
 use Rattle.citation.specs.Store.{judgeOf}
 use Rattle.citation.proofs.RowLaws.{first-unique}
 use Rattle.citation.proofs.OneDay.{names-unique}
 use Rattle.citation.proofs.OneDate.{record-unique}
 use Rattle.citation.proofs.JudgedByKind.{Judged}
 use Rattle.citation.proofs.FirstRefusal.{judged}
+use Rattle.citation.proofs.LeapMonthTold.{told-only}
 use Rattle.citation.proofs.Canonical.{passed}
-use Rattle.text.specs.Piece.{refusedLine}
-use Rattle.lines.specs.Line.{dayLine, storedLine, lineOf}
+use Rattle.lines.specs.Line.{dayLine, storedLine, refusalLine, lineOf}
 use Rattle.lines.proofs.Lines.{line-refused, line-accepted}
 
 -- A stored record is told as its date.
@@ -38,11 +38,16 @@ line-of-day s a r year month leap day names date =
     ∙ ap₂ storedLine stored same
     ∙ told-date (systemOf s) year month leap day r
 
-pub line-of-refusal : (s : List ℕ) (number : ℕ) → 0 < number → FirstOf (citationRows s) number → lineOf s ≡ refusedLine number
-line-of-refusal s number some first = go (judged s)
+pub line-of-refusal : (s : List ℕ) (number told : ℕ) → 0 < number → FirstOf (citationRows s) number → Tells s number told
+    → lineOf s ≡ refusalLine number told
+line-of-refusal s number told some first tells = go (judged s)
   where
-    go : Judged (citationRows s) s (judgeOf s) → lineOf s ≡ refusedLine number
-    go (Judged.refused given more e rows) =
-        let same : (judgeOf s) .refusal ≡ number = ap (λ j. j .refusal) e ∙ first-unique (citationRows s) given number rows first in
-        sym (line-refused s (judgeOf s) refl (λ z. omega arith)) ∙ ap refusedLine same
-    go (Judged.accepted z rows kept) = absurd (omega (arith, first-unique (citationRows s) number 0 first rows))
+    go : Judged (citationRows s) s (judgeOf s) → lineOf s ≡ refusalLine number told
+    go (Judged.refused given month more same-tells e rows) =
+        let same = first-unique (citationRows s) given number rows first in
+        let number-is : (judgeOf s) .refusal ≡ number = ap (λ j. j .refusal) e ∙ same in
+        let told-is : (judgeOf s) .told ≡ told =
+        ap (λ j. j .told) e ∙ told-only s number month told (subst (λ x. Tells s x month) same same-tells) tells
+        in
+        sym (line-refused s (judgeOf s) refl (λ z. omega arith)) ∙ ap₂ refusalLine number-is told-is
+    go (Judged.accepted z nothing rows kept) = absurd (omega (arith, first-unique (citationRows s) number 0 first rows))

@@ -4,7 +4,8 @@ use mathlib.Core.Bool.{cond}
 use mathlib.Core.List.{List, [], _∷_, _++_}
 use lib.Dec.{eqb}
 use Rattle.calendar.specs.SixtyDayName.{nameOf}
-use Rattle.text.specs.Piece.{year, month, line, refusedLine}
+use Rattle.reckoning.specs.RefusalNumbers.{LEAP}
+use Rattle.text.specs.Piece.{year, month, line, refusedLine, refusedTellingLine}
 use Rattle.citation.specs.Record.{systemOf, yearField, monthField, leapField, dayField}
 use Rattle.citation.specs.Store.{judgeOf}
 
@@ -20,7 +21,12 @@ dayLine system year month leap day r = words system year month leap day r (nameO
 unfoldable pub storedLine : List ℕ → ℕ → List ℕ
 storedLine s r = dayLine (systemOf s) (yearField s) (monthField s) (leapField s) (dayField s) r
 
+-- The line of a refusal: paper 02, Q-3, LEAP with the month that it tells.
+abbrev pub refusalLine : ℕ → ℕ → List ℕ
+refusalLine number told = cond (eqb number LEAP) (refusedTellingLine number told) (refusedLine number)
+
 -- The line of a record.
 unfoldable pub lineOf : List ℕ → List ℕ
 lineOf s =
-    let j = judgeOf s in cond (eqb (j .refusal) 0) (storedLine (j .stored) (j .day .0)) (refusedLine (j .refusal))
+    let j = judgeOf s in
+    cond (eqb (j .refusal) 0) (storedLine (j .stored) (j .day .0)) (refusalLine (j .refusal) (j .told))

@@ -3,10 +3,11 @@ ghost use mathlib.Core.Path.{_≡_};
 ghost use Prim.Native.Nat.{_+_, _≤_};
 ghost use lib.ListN.{length};
 ghost use Rattle.text.specs.Wrote.{Wrote};
-ghost use Rattle.lines.specs.Line.{words, storedLine, lineOf};
+ghost use Rattle.lines.specs.Line.{words, storedLine, refusalLine, lineOf};
 use calendar::data::RegisterDay;
 use citation::judge::judge;
 use little_endian::le16;
+use reckoning::refusal_numbers::LEAP;
 
 // A line's words, by the numbers that they tell.
 fn put_words(
@@ -52,6 +53,17 @@ fn put_day(out: &mut [u8], start: usize, stored: [u8; 10], day: RegisterDay) -> 
     )
 }
 
+// The line of a refusal.
+fn put_refusal(out: &mut [u8], start: usize, refusal: u8, told: u8) -> usize
+    requires { ⌜ start + 64 ≤ length (now out) ⌝ }
+    ensures { λ r. ⌜ Wrote (now (out .entry)) start (refusalLine refusal told) (now (out .exit)) r × (r ≤ start + 64) ⌝ }
+{
+    if refusal == LEAP {
+        return text::refused_telling(out, start, refusal, told);
+    }
+    text::refused(out, start, refusal)
+}
+
 // The line of a record, at a place of the output with 64 bytes after it.
 pub(crate) fn put_line(s: &[u8], out: &mut [u8], start: usize) -> usize
     requires { ⌜ start + 64 ≤ length (now out) ⌝ }
@@ -60,7 +72,7 @@ pub(crate) fn put_line(s: &[u8], out: &mut [u8], start: usize) -> usize
     let j = judge(s);
     let refusal = j.refusal;
     if refusal != 0 {
-        return text::refused(out, start, refusal);
+        return put_refusal(out, start, refusal, j.told);
     }
     let stored = j.stored;
     put_day(out, start, stored, j.day)

@@ -45,9 +45,17 @@ star leap = cond (eqb leap 0) [] (42 ∷ [])
 unfoldable pub month : ℕ → ℕ → List ℕ
 month number leap = field number ++ star leap
 
--- "refused" and the number.
+-- "refused" and numbers.
+abbrev pub refusedWith : List ℕ → List ℕ
+refusedWith numbers = line (114 ∷ 101 ∷ 102 ∷ 117 ∷ 115 ∷ 101 ∷ 100 ∷ []) numbers
+
+-- A refusal's number,
 abbrev pub refusedLine : ℕ → List ℕ
-refusedLine number = line (114 ∷ 101 ∷ 102 ∷ 117 ∷ 115 ∷ 101 ∷ 100 ∷ []) (number ∷ [])
+refusedLine number = refusedWith (number ∷ [])
+
+-- and the month that it tells.
+abbrev pub refusedTellingLine : ℕ → ℕ → List ℕ
+refusedTellingLine number told = refusedWith (number ∷ told ∷ [])
 
 -- The texts 0 to n - 1, in order.
 unfoldable pub textsUpTo : (ℕ → List ℕ) → ℕ → List ℕ

@@ -6,7 +6,7 @@ ghost use Prim.Native.Nat.{_+_, _*_, _^_, _<_};
 ghost use lib.Dec.{ltb};
 ghost use lib.ListN.{length};
 ghost use Rattle.text.specs.Decimal.{decimal};
-ghost use Rattle.text.specs.Piece.{word, field, letterOf, year, month, numbered, line, refusedLine};
+ghost use Rattle.text.specs.Piece.{word, field, letterOf, year, month, numbered, line, refusedWith, refusedLine, refusedTellingLine};
 ghost use Rattle.text.specs.Put.{Put};
 
 mod put;
@@ -125,10 +125,26 @@ pub fn line(out: &mut [u8], at: usize, bytes: &[u8], numbers: &[u32]) -> usize
     put::line(out, at, bytes, numbers)
 }
 
+fn refused_with(out: &mut [u8], at: usize, numbers: &[u32]) -> usize
+    ensures { λ r. ⌜
+        Put (now (out .entry)) at (7 + 11 * length (now (numbers .entry)) + 1) (refusedWith (now (numbers .entry))) (now (out .exit)) r
+        ⌝ }
+{
+    line(out, at, b"refused", numbers)
+}
+
 // The line of a refusal.
 pub fn refused(out: &mut [u8], at: usize, refusal: u8) -> usize
     ensures { λ r. ⌜ Put (now (out .entry)) at 19 (refusedLine refusal) (now (out .exit)) r ⌝ }
 {
     let numbers = [refusal as u32];
-    line(out, at, b"refused", &numbers)
+    refused_with(out, at, &numbers)
+}
+
+// The line of a refusal that tells a month.
+pub fn refused_telling(out: &mut [u8], at: usize, refusal: u8, told: u8) -> usize
+    ensures { λ r. ⌜ Put (now (out .entry)) at 30 (refusedTellingLine refusal told) (now (out .exit)) r ⌝ }
+{
+    let numbers = [refusal as u32, told as u32];
+    refused_with(out, at, &numbers)
 }

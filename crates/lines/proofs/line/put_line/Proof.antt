@@ -1,5 +1,4 @@
 use native.Mathlib.Omega.{arith}
-use Rattle.text.proofs.Putting.{all-put, put-last}
 use Rattle.lines.proofs.Lines.{wrote-refused, wrote-accepted}
 use borrow.Author.Needs.{needs}
 use Rattle.lines.proofs.line.put_line.Statement.{statement}
@@ -8,14 +7,14 @@ use Rattle.lines.proofs.line.put_line.Tie as tie
 judge-requires : tie.Need-judge-requires
 judge-requires c κs = search needs
 
-refused-requires : tie.Need-refused-requires
-refused-requires c κs = search needs
+put-refusal-requires : tie.Need-put-refusal-requires
+put-refusal-requires c κs = search needs
 
 same-length : tie.Need-same-length
 same-length c = search needs
 
 returns : tie.Need-returns
-returns c = all-put (search (wrote-refused, put-last)) (omega arith)
+returns c = (search wrote-refused, omega arith)
 
 put-day-requires : tie.Need-put-day-requires
 put-day-requires c κs = search needs
@@ -31,7 +30,7 @@ put-line-spec =
     tie.close
     (tie.spec
     judge-requires
-    refused-requires
+    put-refusal-requires
     same-length
     returns
     put-day-requires
