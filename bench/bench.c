@@ -16,7 +16,7 @@
 
 enum {
     RECORDS = 100000,       /* too many for branches to be learnt by heart */
-    BATCHES = KINDS + 1,    /* one for each kind and a mixed one */
+    BATCHES = KINDS + 2,    /* one for each kind, a mixed one, refused 10 */
     ROUNDS = 15,
     OUTPUT_ROOM = 16
 };
@@ -56,6 +56,18 @@ static void fill_mixed(struct batch *batch, struct random *random)
         size_t length = random_below(random, 100) < 5
             ? make_refused(random, at)
             : make_accepted(random, kind, at);
+        batch->lengths[i] = (uint8_t)length;
+        at += length;
+    }
+}
+
+static void fill_refused_10(struct batch *batch, struct random *random)
+{
+    uint8_t *at = batch->bytes;
+
+    snprintf(batch->name, sizeof batch->name, "refused 10");
+    for (size_t i = 0; i < RECORDS; i++) {
+        size_t length = make_refused_by(random, 10, at);
         batch->lengths[i] = (uint8_t)length;
         at += length;
     }
@@ -197,6 +209,7 @@ int main(int argc, char **argv)
     for (uint32_t kind = 1; kind <= KINDS; kind++)
         fill_with_kind(&batches[kind - 1], &random, kind);
     fill_mixed(&batches[KINDS], &random);
+    fill_refused_10(&batches[KINDS + 1], &random);
 
     for (size_t i = 0; i < BATCHES; i++)
         check_batch(&batches[i]);

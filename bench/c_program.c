@@ -76,15 +76,19 @@ static char *put_register_day(char *at, uint32_t day)
 
 /* Lines. */
 
-static void write_refused(uint32_t number)
+static void write_refused(uint32_t number, uint32_t told)
 {
     static const char word[8] = "refused ";
     char *at = line_start();
 
     memcpy(at, word, sizeof word);
-    at[8] = (char)('0' + number);
-    at[9] = '\n';
-    line_end(at + 10);
+    at = put_below_100(at + sizeof word, number);
+    if (number == 10) {
+        *at++ = ' ';
+        at = put_below_100(at, told);
+    }
+    *at++ = '\n';
+    line_end(at);
 }
 
 static void write_stored(const uint8_t *stored, uint32_t day)
@@ -113,10 +117,10 @@ static void write_line(const uint8_t *record, size_t length)
 {
     uint8_t stored[STORED_LEN];
     uint64_t answer = c_store(record, length, stored, sizeof stored);
-    uint32_t refusal = (uint32_t)(answer >> 32);
+    uint32_t refusal = (uint32_t)(answer >> 32 & 0xFF);
 
     if (refusal != 0)
-        write_refused(refusal);
+        write_refused(refusal, (uint32_t)(answer >> 40));
     else
         write_stored(stored, (uint32_t)answer);
 }
@@ -170,7 +174,7 @@ int main(void)
     while (sound && read_more())
         sound = write_lines();
     if (input_at < input_end)
-        write_refused(1);
+        write_refused(1, 0);
     flush_output();
     return 0;
 }

@@ -46,6 +46,11 @@ INLINE uint64_t refuse(uint64_t number)
     return number << 32;
 }
 
+INLINE uint64_t refuse_telling(uint64_t number, uint64_t month)
+{
+    return refuse(number) | month << 40;
+}
+
 /* The reckoning. */
 
 /* The solstice's day is the year's first middle qi's. */
@@ -54,9 +59,27 @@ INLINE uint64_t head_of_year(const struct calendar *c, uint32_t year)
     return month_of_day(c, (c->elapsed + year) * c->year / c->day).head;
 }
 
+/* The number of a year's leap month; 0 if it has none. Up to the leap month
+ * the months keep step with the year's middle qi, and from it on they are one
+ * behind, so that halving finds the last qi in step. */
+INLINE uint32_t leap_month_of_year(const struct calendar *c, uint32_t year)
+{
+    uint64_t qi = 12 * (c->elapsed + year);
+    uint64_t first = month_of_day(c, day_of_qi(c, qi)).count;
+    uint32_t last = 0;
+
+    for (uint32_t step = 8; step > 0; step /= 2) {
+        uint32_t next = last + step;
+        if (day_of_qi(c, qi + next) < head_of_month(c, first + next + 1))
+            last = next;
+    }
+    return last < 12 ? number_of_qi(last) : 0;
+}
+
 /* A month as kinds 1 and 2 cite it. */
 struct cited {
-    uint32_t refusal;   /* 0, 5 or 6 */
+    uint32_t refusal;   /* 0, 5, 6 or 10 */
+    uint32_t told;      /* with 10, the year's leap month */
     uint32_t length;
     uint64_t head;      /* count day */
 };
@@ -64,7 +87,7 @@ struct cited {
 INLINE struct cited cited_month(const struct calendar *c, uint32_t year,
                                 uint32_t number, uint32_t leap)
 {
-    struct cited found = {0, 0, 0};
+    struct cited found = {0, 0, 0, 0};
 
     if (year - 1 >= LAST_YEAR) {
         found.refusal = 5;
@@ -85,7 +108,8 @@ INLINE struct cited cited_month(const struct calendar *c, uint32_t year,
          * after its end. */
         uint64_t end = head_of_month(c, month.count + 2);
         if (day_of_qi(c, qi + 1) < end) {
-            found.refusal = 6;
+            found.refusal = 10;
+            found.told = leap_month_of_year(c, year);
             return found;
         }
         month.head = month.next;
@@ -123,7 +147,7 @@ INLINE uint64_t store_kind_1(const struct calendar *c, const uint8_t *input,
     uint32_t before = (uint32_t)input[9] - 1;
 
     if (month.refusal)
-        return refuse(month.refusal);
+        return refuse_telling(month.refusal, month.told);
     if (before >= month.length)
         return refuse(7);
     if (output_len < STORED_LEN)
@@ -140,7 +164,7 @@ INLINE uint64_t store_kind_2(const struct calendar *c, const uint8_t *input,
     uint32_t name = input[9];
 
     if (month.refusal)
-        return refuse(month.refusal);
+        return refuse_telling(month.refusal, month.told);
     if (name >= 60)
         return refuse(7);
 

@@ -95,7 +95,10 @@ static size_t spoil(struct random *random, uint32_t refusal,
         if (way == 0)
             record[7] = (uint8_t)(random_below(random, 2) ? 0 : 13);
         else
-            record[8] = (uint8_t)way;
+            record[8] = (uint8_t)(2 + random_below(random, 254));
+        return length;
+    case 10:
+        record[8] = 1;
         return length;
     default:
         if (kind <= 2)
@@ -109,17 +112,27 @@ static size_t spoil(struct random *random, uint32_t refusal,
     }
 }
 
-size_t make_refused(struct random *random, uint8_t *record)
+size_t make_refused_by(struct random *random, uint32_t refusal,
+                       uint8_t *record)
 {
-    uint32_t refusal = 1 + random_below(random, 7);
     uint8_t output[10];
     size_t length;
+    uint64_t answer;
 
     /* Some ways to spoil a record leave it accepted, or refused otherwise. */
     do {
         uint32_t kind = 1 + random_below(random, KINDS);
         length = make_accepted(random, kind, record);
         length = spoil(random, refusal, record, length);
-    } while (c_store(record, length, output, sizeof output) >> 32 != refusal);
+        answer = c_store(record, length, output, sizeof output);
+    } while ((answer >> 32 & 0xFF) != refusal);
     return length;
+}
+
+size_t make_refused(struct random *random, uint8_t *record)
+{
+    static const uint8_t refusals[] = {1, 2, 3, 4, 5, 6, 10, 7};
+    uint32_t refusal = refusals[random_below(random, sizeof refusals)];
+
+    return make_refused_by(random, refusal, record);
 }

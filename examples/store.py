@@ -14,6 +14,7 @@ import struct
 import sys
 
 STORED_SIZE = 10
+NOT_LEAP = 10  # the one refusal that tells a month
 
 
 def load():
@@ -36,10 +37,10 @@ def cite_date(system, year, month, leap, day):
 
 
 def answer(store, citation):
-    """The refusal number, the register day and the stored record."""
+    """The refusal number, the leap month told with it, the register day and the stored record."""
     stored = ctypes.create_string_buffer(STORED_SIZE)
     given = store(citation, len(citation), stored, STORED_SIZE)
-    return given >> 32 & 0xFF, given & 0xFFFFFFFF, stored.raw
+    return given >> 32 & 0xFF, given >> 40 & 0xFF, given & 0xFFFFFFFF, stored.raw
 
 
 def main():
@@ -52,9 +53,10 @@ def main():
         print("store.py: standard output is closed", file=sys.stderr)
         return 2
     try:
-        refusal, day, stored = answer(load(), citation)
+        refusal, leap_month, day, stored = answer(load(), citation)
         if refusal != 0:
-            print("refused", refusal, flush=True)
+            told = [leap_month] if refusal == NOT_LEAP else []
+            print("refused", refusal, *told, flush=True)
             return 1
         print("day", day)
         print("record", stored.hex(" ").upper(), flush=True)

@@ -22,8 +22,12 @@ expect "$stored" 090004000168 ' 5c20 00 '
 
 expect '1 refused 1' ''
 expect '1 refused 3' 0A 00 04 00 01 68 5C 20 00
-expect '1 refused 6' 0A 00 01 00 01 46 04 05 01 01
-expect '1 refused 6' 0A 00 02 00 01 46 04 05 01 25
+expect '1 refused 6' 0A 00 01 00 01 46 04 0D 01 01
+expect '1 refused 6' 0A 00 02 00 01 46 04 05 02 25
+expect '1 refused 10 4' 0A 00 01 00 01 46 04 05 01 01
+expect '1 refused 10 4' 0A 00 02 00 01 46 04 05 01 25
+expect '1 refused 10 0' 0A 00 01 00 01 44 04 05 01 01
+expect '1 refused 10 0' 0A 00 02 00 01 44 04 05 01 25
 expect '1 refused 7' 09 00 03 00 01 46 04 81 01
 
 expect '2 '

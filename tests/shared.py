@@ -1,5 +1,5 @@
 #!/usr/bin/env python3
-"""The shared library, called from Python: case 9, a refusal, and outputs that are long and short."""
+"""The shared library, called from Python: case 9, refusals, and outputs that are long and short."""
 
 import ctypes
 import os
@@ -18,6 +18,8 @@ CASE_9 = [
 ]
 STORED = bytes.fromhex(CASE_9[0])
 ORDINAL_385 = "09 00 03 00 01 46 04 81 01"
+LEAP_5_OF_1094 = "0A 00 01 00 01 46 04 05 01 01"
+LEAP_5_OF_1092 = "0A 00 01 00 01 44 04 05 01 01"
 
 
 def check(cited, room, answer, stored):
@@ -39,6 +41,8 @@ for record in CASE_9:
     check(record, 0, 8 << 32, b"")
 for room in 0, 9, 10, 16:
     check(ORDINAL_385, room, 7 << 32, b"")
+    check(LEAP_5_OF_1094, room, 4 << 40 | 10 << 32, b"")
+    check(LEAP_5_OF_1092, room, 10 << 32, b"")
 check("", 16, 1 << 32, b"")
 if store(None, 0, None, 0) != 1 << 32:
     sys.exit("shared.py: null pointers are not refused 1")

@@ -1,8 +1,8 @@
 /* Calls the storing step on every frame of a stream and compares.
  *
  * A frame is: input length (1 byte), the input, output length (1 byte), the
- * expected answer (8 bytes, little-endian) and, where the expected refusal is
- * 0, the expected ten bytes. Each buffer lent to the call ends where a page
+ * expected answer (8 bytes, little-endian) and, where that accepts the input,
+ * the expected ten bytes. Each buffer lent to the call ends where a page
  * begins that cannot be touched, so that one byte read or written past the
  * end stops the run. */
 
@@ -59,6 +59,12 @@ static size_t input_len, output_len;
 static uint64_t expected_answer;
 static uint8_t expected_record[RECORD];
 
+/* Accepted is told by a day alone: no refusal, and no month either. */
+static int is_accepted(uint64_t answer)
+{
+    return answer >> 32 == 0;
+}
+
 static void print_hex(const char *what, const uint8_t *bytes, size_t count)
 {
     fprintf(stderr, "  %s (%zu):", what, count);
@@ -69,8 +75,9 @@ static void print_hex(const char *what, const uint8_t *bytes, size_t count)
 
 static void print_answer(const char *what, uint64_t answer)
 {
-    fprintf(stderr, "  %s: refusal %llu, day %llu (%016llX)\n", what,
-            (unsigned long long)(answer >> 32),
+    fprintf(stderr, "  %s: refusal %llu, month %llu, day %llu (%016llX)\n", what,
+            (unsigned long long)(answer >> 32 & 0xFF),
+            (unsigned long long)(answer >> 40 & 0xFF),
             (unsigned long long)(answer & 0xFFFFFFFFu),
             (unsigned long long)answer);
 }
@@ -83,7 +90,7 @@ static void print_frame(const char *why)
     print_hex("input", input_bytes, input_len);
     fprintf(stderr, "  output length: %zu\n", output_len);
     print_answer("expected", expected_answer);
-    if (expected_answer >> 32 == 0)
+    if (is_accepted(expected_answer))
         print_hex("expected record", expected_record, RECORD);
 }
 
@@ -175,7 +182,7 @@ static void check_frame(void)
         fail("another answer", came, &output_place);
     if (!untouched(&input_place, input_len, 0))
         fail("the input was changed", came, &output_place);
-    if (came >> 32 != 0) {
+    if (!is_accepted(came)) {
         if ((came & 0xFFFFFFFFu) != 0)
             fail("refused with a day", came, &output_place);
         if (!untouched(&output_place, output_len, 0))
@@ -225,7 +232,7 @@ static int next_frame(void)
     for (int i = 7; i >= 0; i--)
         expected_answer = expected_answer << 8 | at[i];
     block_at += 1 + input_len + 1 + 8;
-    if (expected_answer >> 32 != 0)
+    if (!is_accepted(expected_answer))
         return 1;
     if (!have(RECORD))
         cut();
@@ -256,7 +263,7 @@ int main(void)
     while (next_frame()) {
         check_frame();
         cases_done++;
-        if (expected_answer >> 32 == 0)
+        if (is_accepted(expected_answer))
             accepted++;
         else
             refused++;

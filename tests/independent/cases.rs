@@ -1,7 +1,7 @@
 //! The check of this program itself: the examples and the general facts of
 //! papers 01 and 02, with the papers' numbers written out.
 
-use crate::citation::store;
+use crate::citation::{answer, store, Refusal};
 use crate::lines::lines;
 use crate::reckoning::{name_of, Month, Tables, System, Table, Year, FIRST_YEAR, LAST_YEAR};
 use crate::streams::{citation_of, leap_marks};
@@ -29,6 +29,7 @@ pub fn run(tables: &Tables) -> Checks {
     let mut checks = Checks { passed: 0, failures: Vec::new() };
     examples(tables, &mut checks);
     days_with_qi_and_moon(tables, &mut checks);
+    told_months(tables, &mut checks);
     for system in 1..=2 {
         let table = tables.table(system).unwrap();
         facts(table, &mut checks);
@@ -37,29 +38,48 @@ pub fn run(tables: &Tables) -> Checks {
         every_day(tables, table, &mut checks);
         every_stored_form(tables, table, &mut checks);
         every_leap_mark(tables, table, &mut checks);
+        every_told_month(tables, table, &mut checks);
     }
     checks
 }
 
-/// The refusal of a record stored with room enough, 0 when accepted.
-fn refusal(tables: &Tables, record: &[u8]) -> u8 {
-    store(tables, record, 10).err().unwrap_or(0)
+/// The refusal of a record stored with so much room, and the month told with
+/// it; both are 0 when it is accepted.
+fn refusal_with_room(tables: &Tables, record: &[u8], room: usize) -> (u8, u8) {
+    match store(tables, record, room) {
+        Ok(_) => (0, 0),
+        Err(refusal) => (refusal.number, refusal.leap_month),
+    }
 }
 
-fn by_date(tables: &Tables, system: u8, year: u16, month: u8, leap: u8, day: u8) -> u8 {
+/// The same with room enough.
+fn refusal(tables: &Tables, record: &[u8]) -> (u8, u8) {
+    refusal_with_room(tables, record, 10)
+}
+
+fn lines_of(tables: &Tables, input: &[u8]) -> String {
+    let mut out = Vec::new();
+    lines(tables, input, &mut out).unwrap();
+    String::from_utf8(out).unwrap()
+}
+
+fn by_date(tables: &Tables, system: u8, year: u16, month: u8, leap: u8, day: u8) -> (u8, u8) {
     let y = year.to_le_bytes();
     refusal(tables, &[10, 0, 1, 0, system, y[0], y[1], month, leap, day])
 }
 
-fn by_ordinal(tables: &Tables, system: u8, year: u16, ordinal: u16) -> u8 {
+fn by_ordinal(tables: &Tables, system: u8, year: u16, ordinal: u16) -> (u8, u8) {
     let (y, o) = (year.to_le_bytes(), ordinal.to_le_bytes());
     refusal(tables, &[9, 0, 3, 0, system, y[0], y[1], o[0], o[1]])
 }
 
-fn by_name(tables: &Tables, system: u8, year: u16, month: u8, leap: u8, name: u8) -> u8 {
+fn by_name(tables: &Tables, system: u8, year: u16, month: u8, leap: u8, name: u8) -> (u8, u8) {
     let y = year.to_le_bytes();
     refusal(tables, &[10, 0, 2, 0, system, y[0], y[1], month, leap, name])
 }
+
+/// One of these two: system, year, month, leap byte, and the day or the name.
+type By = fn(&Tables, u8, u16, u8, u8, u8) -> (u8, u8);
 
 fn leap_numbers(year: &Year) -> Vec<u8> {
     year.months.iter().filter(|m| m.leap).map(|m| m.number).collect()
@@ -85,19 +105,19 @@ fn examples(tables: &Tables, checks: &mut Checks) {
 
     checks.same("3, months", y.months.len(), 12);
     checks.same("3, days", y.length(), 355);
-    checks.same("3, ordinal 355", by_ordinal(tables, 1, 1092, 355), 0);
-    checks.same("3, ordinal 356", by_ordinal(tables, 1, 1092, 356), 7);
+    checks.same("3, ordinal 355", by_ordinal(tables, 1, 1092, 355), (0, 0));
+    checks.same("3, ordinal 356", by_ordinal(tables, 1, 1092, 356), (7, 0));
 
     checks.same("4, number", (y.months[0].number, y.months[0].leap), (11, false));
     checks.same("4, days", y.months[0].length, 30);
-    checks.same("4, name 50", by_name(tables, 1, 1092, 11, 0, 50), 0);
-    checks.same("4, name 51", by_name(tables, 1, 1092, 11, 0, 51), 7);
+    checks.same("4, name 50", by_name(tables, 1, 1092, 11, 0, 50), (0, 0));
+    checks.same("4, name 51", by_name(tables, 1, 1092, 11, 0, 51), (7, 0));
 
     let y = guantian.year(1094);
     checks.same("5, head", y.head, 2120601);
     checks.same("5, months", y.months.len(), 13);
     checks.same("5, days", y.length(), 384);
-    checks.same("5, ordinal 385", by_ordinal(tables, 1, 1094, 385), 7);
+    checks.same("5, ordinal 385", by_ordinal(tables, 1, 1094, 385), (7, 0));
 
     let (seventh, eighth) = (&y.months[6], &y.months[7]);
     checks.same("6, number", (eighth.number, eighth.leap), (5, false));
@@ -124,7 +144,7 @@ fn examples(tables: &Tables, checks: &mut Checks) {
     let four: [&[u8]; 4] = [&first, &second, &third, &fourth];
     for record in four {
         checks.same("9, stored", store(tables, record, 10), Ok((2120808, first)));
-        checks.same("9, no room", store(tables, record, 9), Err(8));
+        checks.same("9, no room", store(tables, record, 9), Err(Refusal::plain(8)));
     }
 
     let y = jiyuan.year(1107);
@@ -138,21 +158,16 @@ fn examples(tables: &Tables, checks: &mut Checks) {
     // input at all.
     let mut input = four.concat();
     input.push(0);
-    let mut out = Vec::new();
-    lines(tables, &input, &mut out).unwrap();
     let expected = "G 1094 5 1 2120808 37\n".repeat(4) + "refused 1\n";
-    checks.same("the program", String::from_utf8(out).unwrap(), expected);
-    let mut out = Vec::new();
-    lines(tables, &[], &mut out).unwrap();
-    checks.same("the program on nothing", out.len(), 0);
+    checks.same("the program", lines_of(tables, &input), expected);
+    checks.same("the program on nothing", lines_of(tables, &[]), String::new());
 
     // Two days of one name, sixty apart.
     checks.same("shared name, first", name_of(2120808), 37);
     checks.same("shared name, second", name_of(2120868), 37);
 }
 
-/// What Q-2 says of two days on which a new moon follows a qi, and of leap 5,
-/// which Guantian 1094 does not have.
+/// What Q-2 says of two days on which a new moon follows a qi.
 fn days_with_qi_and_moon(tables: &Tables, checks: &mut Checks) {
     let guantian = tables.table(1).unwrap();
     let y = guantian.year(1094);
@@ -163,10 +178,6 @@ fn days_with_qi_and_moon(tables: &Tables, checks: &mut Checks) {
     checks.same("Q-2, parts between them", (parts_between, summer.small_units), (76, 0));
 
     checks.same("Q-2, leap months of 1094", leap_numbers(y), vec![4]);
-    for byte in 0..=255 {
-        checks.same("Q-2, leap 5 by date", by_date(tables, 1, 1094, 5, 1, byte), 6);
-        checks.same("Q-2, leap 5 by name", by_name(tables, 1, 1094, 5, 1, byte), 6);
-    }
 
     let jiyuan = tables.table(2).unwrap();
     let (y, last) = (jiyuan.year(1108), &jiyuan.year(1107).months[12]);
@@ -174,6 +185,114 @@ fn days_with_qi_and_moon(tables: &Tables, checks: &mut Checks) {
         "Q-2: the first new moon of Jiyuan 1108 is not the next after its solstice".to_string()
     });
     checks.same("Q-2, day of that new moon", y.months[0].head, y.solstice_day);
+}
+
+/// Leap 5 of Guantian 1094, whose leap month is 4, and of Guantian 1092, which
+/// has none, in kinds 1 and 2; and leap 4 of 1094, which is there.
+const LEAP_5_BY_DATE: [u8; 10] = [0x0A, 0x00, 0x01, 0x00, 0x01, 0x46, 0x04, 0x05, 0x01, 0x01];
+const LEAP_5_BY_NAME: [u8; 10] = [0x0A, 0x00, 0x02, 0x00, 0x01, 0x46, 0x04, 0x05, 0x01, 0x25];
+const NO_LEAP_BY_DATE: [u8; 10] = [0x0A, 0x00, 0x01, 0x00, 0x01, 0x44, 0x04, 0x05, 0x01, 0x01];
+const NO_LEAP_BY_NAME: [u8; 10] = [0x0A, 0x00, 0x02, 0x00, 0x01, 0x44, 0x04, 0x05, 0x01, 0x25];
+const LEAP_4_BY_DATE: [u8; 10] = [0x0A, 0x00, 0x01, 0x00, 0x01, 0x46, 0x04, 0x04, 0x01, 0x01];
+
+/// A record with one byte changed.
+fn changed(record: [u8; 10], at: usize, byte: u8) -> [u8; 10] {
+    let mut other = record;
+    other[at] = byte;
+    other
+}
+
+/// What Q-3 says of a month that is marked leap and is not: refusal 10, its
+/// place among the others, the month told with it, and how it is written.
+fn told_months(tables: &Tables, checks: &mut Checks) {
+    for by in [by_date, by_name] {
+        told_with_ten(tables, checks, by);
+        before_ten(tables, checks, by);
+    }
+    around_ten(tables, checks);
+
+    for (record, line) in [
+        (LEAP_5_BY_DATE, "refused 10 4\n"),
+        (LEAP_5_BY_NAME, "refused 10 4\n"),
+        (NO_LEAP_BY_DATE, "refused 10 0\n"),
+        (NO_LEAP_BY_NAME, "refused 10 0\n"),
+        (changed(LEAP_5_BY_DATE, 7, 13), "refused 6\n"),
+        (changed(LEAP_5_BY_DATE, 8, 2), "refused 6\n"),
+        (changed(LEAP_4_BY_DATE, 9, 31), "refused 7\n"),
+    ] {
+        checks.same("Q-3, the program", lines_of(tables, &record), line.to_string());
+    }
+
+    let to_c = |record: &[u8]| answer(&store(tables, record, 10));
+    checks.same("Q-3, 10 telling 4 to C", to_c(&LEAP_5_BY_DATE), 0x040A_0000_0000);
+    checks.same("Q-3, 10 telling none to C", to_c(&NO_LEAP_BY_DATE), 0x000A_0000_0000);
+    checks.same("Q-3, 7 to C", to_c(&changed(LEAP_4_BY_DATE, 9, 31)), 0x0007_0000_0000);
+    checks.same("Q-3, case 9 to C", to_c(&changed(LEAP_5_BY_DATE, 8, 0)), 2120808);
+}
+
+/// 10 and the month told, whatever the day or the name; and the leap months
+/// themselves, in which a day or a name may be missing.
+fn told_with_ten(tables: &Tables, checks: &mut Checks, by: By) {
+    for byte in 0..=255 {
+        checks.same("Q-3, leap 5 of 1094", by(tables, 1, 1094, 5, 1, byte), (10, 4));
+        checks.same("Q-3, leap 5 of 1092", by(tables, 1, 1092, 5, 1, byte), (10, 0));
+        checks.same("Q-3, leap 11 of 1107", by(tables, 2, 1107, 11, 1, byte), (10, 10));
+        checks.same("Q-3, leap 11 of 1108", by(tables, 2, 1108, 11, 1, byte), (10, 0));
+    }
+    for (system, year, leap, place) in [(1, 1094, 4, 6), (2, 1107, 10, 12)] {
+        let month = &tables.table(system).unwrap().year(year).months[place];
+        let answers: Vec<(u8, u8)> =
+            (0..=255).map(|byte| by(tables, system, year as u16, leap, 1, byte)).collect();
+        let accepted = answers.iter().filter(|a| **a == (0, 0)).count();
+        let missing = answers.iter().filter(|a| **a == (7, 0)).count();
+        checks.same("Q-3, days of a leap month", accepted as i128, month.length);
+        checks.same("Q-3, the rest of the bytes", accepted + missing, 256);
+    }
+}
+
+/// The refusals that come first, although the leap byte is 1 and the month is
+/// not leap: 6, and before it 5 and 4.
+fn before_ten(tables: &Tables, checks: &mut Checks, by: By) {
+    for number in (0..=255).filter(|n| !(1..=12).contains(n)) {
+        checks.same("Q-3, no such number", by(tables, 1, 1094, number, 1, 1), (6, 0));
+        checks.same("Q-3, no such number", by(tables, 1, 1092, number, 1, 1), (6, 0));
+    }
+    for leap in 2..=255 {
+        checks.same("Q-3, no such leap byte", by(tables, 1, 1094, 4, leap, 1), (6, 0));
+        checks.same("Q-3, no such leap byte", by(tables, 1, 1094, 5, leap, 1), (6, 0));
+        checks.same("Q-3, no such leap byte", by(tables, 1, 1092, 5, leap, 1), (6, 0));
+    }
+    for year in [0, 3001, 65_535] {
+        checks.same("Q-3, no such year", by(tables, 1, year, 5, 1, 1), (5, 0));
+    }
+    for system in [0, 3, 255] {
+        checks.same("Q-3, no such system", by(tables, system, 1094, 5, 1, 1), (4, 0));
+        checks.same("Q-3, no such system", by(tables, system, 0, 13, 1, 1), (4, 0));
+    }
+}
+
+/// Refusals 1 to 3 before 10, and 7 and 8 after it.
+fn around_ten(tables: &Tables, checks: &mut Checks) {
+    for record in [LEAP_5_BY_DATE, LEAP_5_BY_NAME] {
+        for length in 0..10 {
+            let expected = if length < 4 { (1, 0) } else { (3, 0) };
+            checks.same("Q-3, cut", refusal(tables, &record[..length]), expected);
+        }
+        checks.same("Q-3, length field 9", refusal(tables, &changed(record, 0, 9)), (3, 0));
+        checks.same("Q-3, kind 3 in ten bytes", refusal(tables, &changed(record, 2, 3)), (3, 0));
+        checks.same("Q-3, kind 0", refusal(tables, &changed(record, 2, 0)), (2, 0));
+        checks.same("Q-3, kind 5", refusal(tables, &changed(record, 2, 5)), (2, 0));
+        for room in 0..10 {
+            let no_day = changed(record, 9, 255);
+            checks.same("Q-3, no room", refusal_with_room(tables, &record, room), (10, 4));
+            checks.same("Q-3, no room, no day", refusal_with_room(tables, &no_day, room), (10, 4));
+        }
+    }
+    for room in 0..10 {
+        let no_day = changed(LEAP_4_BY_DATE, 9, 31);
+        checks.same("Q-3, leap 4, no room", refusal_with_room(tables, &LEAP_4_BY_DATE, room), (8, 0));
+        checks.same("Q-3, leap 4, no day", refusal_with_room(tables, &no_day, room), (7, 0));
+    }
 }
 
 /// The numbers of the months that hold the middle qi, in order.
@@ -408,7 +527,7 @@ fn every_day(tables: &Tables, table: &Table, checks: &mut Checks) {
     checks.that(day == table.year(LAST_YEAR + 1).head, || "the last day walked to".to_string());
     for outside in [table.first_day - 1, day] {
         let d = (outside as u32).to_le_bytes();
-        checks.same("a day outside", refusal(tables, &[9, 0, 4, 0, system, d[0], d[1], d[2], d[3]]), 7);
+        checks.same("a day outside", refusal(tables, &[9, 0, 4, 0, system, d[0], d[1], d[2], d[3]]), (7, 0));
     }
 }
 
@@ -443,5 +562,39 @@ fn every_leap_mark(tables: &Tables, table: &Table, checks: &mut Checks) {
     for (record, expected) in leap_marks(table) {
         let result = store(tables, &record, 10);
         checks.that(result == expected, || format!("{:?}: {:?}", record, result));
+    }
+}
+
+/// Month numbers 0 to 13 of every year with leap bytes 0 to 2, in kinds 1 and
+/// 2, with days and names that are there and others: 10 for every number but
+/// the leap month's, which it tells, and no month told with anything else.
+/// Nor is one told with ordinals that the year lacks.
+fn every_told_month(tables: &Tables, table: &Table, checks: &mut Checks) {
+    let system = table.system.number;
+    for year in FIRST_YEAR..=LAST_YEAR {
+        let y = table.year(year);
+        for ordinal in [0, y.length() as u16 + 1, 65_535] {
+            checks.same("no such ordinal", by_ordinal(tables, system, year as u16, ordinal), (7, 0));
+        }
+        let leap_month = leap_numbers(y).first().copied().unwrap_or(0);
+        let right = |number: u8, leap: u8, came: (u8, u8)| {
+            if number == 0 || number == 13 || leap == 2 {
+                came == (6, 0)
+            } else if leap == 1 && number != leap_month {
+                came == (10, leap_month)
+            } else {
+                came == (0, 0) || came == (7, 0)
+            }
+        };
+        for (number, leap) in (0..=13).flat_map(|n| (0..=2).map(move |leap| (n, leap))) {
+            for byte in [0, 1, 29, 45, 255] {
+                for by in [by_date, by_name] {
+                    let came = by(tables, system, year as u16, number, leap, byte);
+                    checks.that(right(number, leap, came), || {
+                        format!("system {}, year {}, {} {} {}: {:?}", system, year, number, leap, byte, came)
+                    });
+                }
+            }
+        }
     }
 }

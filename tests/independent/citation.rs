@@ -6,6 +6,26 @@ use std::ops::Range;
 /// A stored citation: its register day and its ten bytes.
 pub type Stored = (u32, [u8; 10]);
 
+/// Why a citation is not stored.
+#[derive(Clone, Copy, PartialEq, Eq, Debug)]
+pub struct Refusal {
+    pub number: u8,
+    /// Told with 10 only (paper 02, Q-3): the number of the year's leap month,
+    /// or 0 if it has none. It is 0 with every other refusal.
+    pub leap_month: u8,
+}
+
+impl Refusal {
+    pub fn plain(number: u8) -> Refusal {
+        Refusal { number, leap_month: 0 }
+    }
+
+    /// 10: the month is marked leap and is not.
+    pub fn not_leap(leap_month: u8) -> Refusal {
+        Refusal { number: 10, leap_month }
+    }
+}
+
 fn two_bytes(bytes: &[u8], at: usize) -> u32 {
     bytes[at] as u32 + 256 * bytes[at + 1] as u32
 }
@@ -14,11 +34,12 @@ fn four_bytes(bytes: &[u8], at: usize) -> u32 {
     two_bytes(bytes, at) + 65_536 * two_bytes(bytes, at + 2)
 }
 
-/// The day that a citation names, or the first of refusals 1 to 7 that holds.
-pub fn named_day(tables: &Tables, input: &[u8]) -> Result<i128, u8> {
+/// The day that a citation names, or the first of refusals 1 to 6, 10 and 7
+/// that holds.
+pub fn named_day(tables: &Tables, input: &[u8]) -> Result<i128, Refusal> {
     // 1: too short for a length and a kind
     if input.len() < 4 {
-        return Err(1);
+        return Err(Refusal::plain(1));
     }
     // 2: no such kind
     let kind = two_bytes(input, 2);
@@ -27,16 +48,16 @@ pub fn named_day(tables: &Tables, input: &[u8]) -> Result<i128, u8> {
         2 => 10,
         3 => 9,
         4 => 9,
-        _ => return Err(2),
+        _ => return Err(Refusal::plain(2)),
     };
     // 3: the length told, or the input's own, is not that of the kind
     if two_bytes(input, 0) != kinds_length || input.len() != kinds_length as usize {
-        return Err(3);
+        return Err(Refusal::plain(3));
     }
     // 4: no such system
     let table = match tables.table(input[4]) {
         Some(table) => table,
-        None => return Err(4),
+        None => return Err(Refusal::plain(4)),
     };
     if kind == 4 {
         return by_day(table, four_bytes(input, 5) as i128);
@@ -44,7 +65,7 @@ pub fn named_day(tables: &Tables, input: &[u8]) -> Result<i128, u8> {
     // 5: no such year
     let year = two_bytes(input, 5) as i128;
     if year < FIRST_YEAR || year > LAST_YEAR {
-        return Err(5);
+        return Err(Refusal::plain(5));
     }
     let year = table.year(year);
     match kind {
@@ -54,11 +75,11 @@ pub fn named_day(tables: &Tables, input: &[u8]) -> Result<i128, u8> {
     }
 }
 
-/// The days of the month with a number and a leap byte. 6: there can be no
-/// such month, or this year lacks the leap month asked for.
-fn days_of_month(year: &Year, number: u8, leap: u8) -> Result<Range<i128>, u8> {
+/// The days of the month with a number and a leap byte.
+fn days_of_month(year: &Year, number: u8, leap: u8) -> Result<Range<i128>, Refusal> {
+    // 6: there can be no such month
     if number < 1 || number > 12 || leap > 1 {
-        return Err(6);
+        return Err(Refusal::plain(6));
     }
     for month in &year.months {
         if month.number == number && month.leap == (leap == 1) {
@@ -66,11 +87,22 @@ fn days_of_month(year: &Year, number: u8, leap: u8) -> Result<Range<i128>, u8> {
         }
     }
     assert!(leap == 1, "a year lacks one of its twelve numbered months");
-    Err(6)
+    // 10: this year lacks the leap month asked for
+    Err(Refusal::not_leap(leap_month(year)))
+}
+
+/// The number of the year's leap month, or 0 if it has none.
+fn leap_month(year: &Year) -> u8 {
+    for month in &year.months {
+        if month.leap {
+            return month.number;
+        }
+    }
+    0
 }
 
 /// Kind 1: by counting the days of the month.
-fn by_day_of_month(year: &Year, number: u8, leap: u8, wanted: u8) -> Result<i128, u8> {
+fn by_day_of_month(year: &Year, number: u8, leap: u8, wanted: u8) -> Result<i128, Refusal> {
     let mut day_of_month = 0;
     for day in days_of_month(year, number, leap)? {
         day_of_month += 1;
@@ -78,21 +110,21 @@ fn by_day_of_month(year: &Year, number: u8, leap: u8, wanted: u8) -> Result<i128
             return Ok(day);
         }
     }
-    Err(7)
+    Err(Refusal::plain(7))
 }
 
 /// Kind 2: by looking for the name among the days of the month.
-fn by_name(year: &Year, number: u8, leap: u8, wanted: u8) -> Result<i128, u8> {
+fn by_name(year: &Year, number: u8, leap: u8, wanted: u8) -> Result<i128, Refusal> {
     for day in days_of_month(year, number, leap)? {
         if name_of(day) == wanted {
             return Ok(day);
         }
     }
-    Err(7)
+    Err(Refusal::plain(7))
 }
 
 /// Kind 3: by counting the days of the year.
-fn by_ordinal(year: &Year, wanted: u32) -> Result<i128, u8> {
+fn by_ordinal(year: &Year, wanted: u32) -> Result<i128, Refusal> {
     let mut ordinal = 0;
     for day in year.head..year.next_head {
         ordinal += 1;
@@ -100,13 +132,13 @@ fn by_ordinal(year: &Year, wanted: u32) -> Result<i128, u8> {
             return Ok(day);
         }
     }
-    Err(7)
+    Err(Refusal::plain(7))
 }
 
 /// Kind 4: the day itself, if it belongs to years 1 to 3000.
-fn by_day(table: &Table, day: i128) -> Result<i128, u8> {
+fn by_day(table: &Table, day: i128) -> Result<i128, Refusal> {
     if day < table.year(FIRST_YEAR).head || day >= table.year(LAST_YEAR + 1).head {
-        return Err(7);
+        return Err(Refusal::plain(7));
     }
     Ok(day)
 }
@@ -130,21 +162,24 @@ pub fn stored_record(table: &Table, day: i128) -> [u8; 10] {
 }
 
 /// The storing step, for an output of that many bytes.
-pub fn store(tables: &Tables, input: &[u8], output_length: usize) -> Result<Stored, u8> {
+pub fn store(tables: &Tables, input: &[u8], output_length: usize) -> Result<Stored, Refusal> {
     let day = named_day(tables, input)?;
     // 8: no room for the record
     if output_length < 10 {
-        return Err(8);
+        return Err(Refusal::plain(8));
     }
     let table = tables.table(input[4]).unwrap();
     Ok((day as u32, stored_record(table, day)))
 }
 
-/// What C is told: the day in the low 32 bits, the refusal above it; one of
-/// the two is 0.
-pub fn answer(result: &Result<Stored, u8>) -> u64 {
+/// What C is told: the day in the low 32 bits, the refusal in the eight above
+/// them and the month told in the next eight; accepted, nothing but the day,
+/// and refused, no day.
+pub fn answer(result: &Result<Stored, Refusal>) -> u64 {
     match result {
         Ok((day, _)) => *day as u64,
-        Err(refusal) => 4_294_967_296 * *refusal as u64,
+        Err(Refusal { number, leap_month }) => {
+            4_294_967_296 * *number as u64 + 1_099_511_627_776 * *leap_month as u64
+        }
     }
 }

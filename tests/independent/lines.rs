@@ -1,6 +1,6 @@
 //! The program of paper 01: records from standard input, one line for each.
 
-use crate::citation::store;
+use crate::citation::{store, Refusal};
 use crate::reckoning::{name_of, Tables};
 use std::io::{self, Write};
 
@@ -53,7 +53,7 @@ fn first_record(left: &[u8]) -> Option<usize> {
 /// The program's own output is long enough, so that 8 never applies.
 fn line(tables: &Tables, record: &[u8]) -> String {
     match store(tables, record, 10) {
-        Err(refusal) => format!("refused {}", refusal),
+        Err(refusal) => refused_line(refusal),
         Ok((day, stored)) => {
             let day = day as i128;
             let table = tables.table(stored[4]).unwrap();
@@ -68,6 +68,14 @@ fn line(tables: &Tables, record: &[u8]) -> String {
                 name_of(day)
             )
         }
+    }
+}
+
+/// Paper 02, Q-3: a month comes with 10 only, and with 10 even where it is 0.
+fn refused_line(refusal: Refusal) -> String {
+    match refusal.number {
+        10 => format!("refused 10 {}", refusal.leap_month),
+        number => format!("refused {}", number),
     }
 }
 

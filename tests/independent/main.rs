@@ -15,6 +15,7 @@ use reckoning::{Tables, Table, GUANTIAN, JIYUAN};
 use requests::{answers, Number};
 use std::io::{self, BufWriter, Read, Write};
 use std::process::exit;
+use streams::ANSWERS;
 
 const USAGE: &str = "usage:
   independent year SYSTEM YEAR [LAST]
@@ -90,12 +91,22 @@ fn records() -> Vec<u8> {
 fn random(seed: u64, count: u64, out: &mut impl Write) -> io::Result<()> {
     eprintln!("independent: random seed {}", seed);
     let tally = streams::random(&Tables::new(), seed, count, out)?;
-    eprint!("independent: accepted {}", tally[0]);
-    for (refusal, times) in tally.iter().enumerate().skip(1) {
-        eprint!(", refused {}: {}", refusal, times);
+    let told: Vec<String> = ANSWERS.iter().zip(tally).map(tally_text).collect();
+    eprintln!("independent: {}", told.join(", "));
+    // A run of this size that never meets one of the answers does not test it.
+    if count >= 100_000 && tally.contains(&0) {
+        eprintln!("independent: one of these never came");
+        out.flush()?;
+        exit(1);
     }
-    eprintln!();
     Ok(())
+}
+
+fn tally_text((number, times): (&u8, u64)) -> String {
+    match number {
+        0 => format!("accepted {}", times),
+        _ => format!("refused {}: {}", number, times),
+    }
 }
 
 fn stream(seed: u64, count: u64, out: &mut impl Write) -> io::Result<()> {

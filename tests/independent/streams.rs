@@ -5,7 +5,7 @@
 //! expected answer (8 bytes, little-endian), and then, where the input is
 //! accepted, the expected ten bytes.
 
-use crate::citation::{answer, store, Stored};
+use crate::citation::{answer, store, Refusal, Stored};
 use crate::random::Random;
 use crate::reckoning::{name_of, Tables, Place, Table, FIRST_YEAR, LAST_YEAR};
 use std::io::{self, Write};
@@ -14,7 +14,7 @@ fn frame(
     out: &mut impl Write,
     input: &[u8],
     output_length: usize,
-    result: &Result<Stored, u8>,
+    result: &Result<Stored, Refusal>,
 ) -> io::Result<()> {
     out.write_all(&[input.len() as u8])?;
     out.write_all(input)?;
@@ -72,18 +72,19 @@ pub fn days(table: &Table, out: &mut impl Write) -> io::Result<()> {
 /// 2, and what is expected by the list of the year's months. The first day of
 /// such a month is cited; where there is none, that of the unmarked month, so
 /// that nothing but the mark speaks against it.
-pub fn leap_marks(table: &Table) -> Vec<(Vec<u8>, Result<Stored, u8>)> {
+pub fn leap_marks(table: &Table) -> Vec<(Vec<u8>, Result<Stored, Refusal>)> {
     let system = table.system.number;
     let mut marked = Vec::new();
     for year in FIRST_YEAR..=LAST_YEAR {
         let months = &table.year(year).months;
+        let refusal = Refusal::not_leap(months.iter().find(|m| m.leap).map_or(0, |m| m.number));
         for number in 1..=12 {
             for leap in [false, true] {
                 let with = |mark| months.iter().find(|m| m.number == number && m.leap == mark);
                 let day = with(leap).or(with(false)).unwrap().head;
                 let place = Place { leap, ..table.place(day).unwrap() };
                 for kind in 1..=2 {
-                    let expected = with(leap).map(|_| stored_at(system, place, day)).ok_or(6);
+                    let expected = with(leap).map(|_| stored_at(system, place, day)).ok_or(refusal);
                     marked.push((citation_of(system, kind, place, day), expected));
                 }
             }
@@ -100,23 +101,33 @@ pub fn marks(table: &Table, out: &mut impl Write) -> io::Result<()> {
     Ok(())
 }
 
-/// How often each answer came: accepted at 0, refused by its number.
-pub type Tally = [u64; 9];
+/// What the storing step can answer: 0, accepted, and the refusals in the order
+/// of its checks. 9 is of qi only.
+pub const ANSWERS: [u8; 10] = [0, 1, 2, 3, 4, 5, 6, 10, 7, 8];
+
+/// How often each of them came.
+pub type Tally = [u64; ANSWERS.len()];
+
+fn count_in(tally: &mut Tally, result: &Result<Stored, Refusal>) {
+    let number = match result {
+        Ok(_) => 0,
+        Err(refusal) => refusal.number,
+    };
+    let place = ANSWERS.iter().position(|answer| *answer == number);
+    tally[place.expect("an answer that cannot be")] += 1;
+}
 
 /// Random and damaged records.
 pub fn random(tables: &Tables, seed: u64, count: u64, out: &mut impl Write) -> io::Result<Tally> {
     let mut random = Random::new(seed);
     let maker = Maker::new(tables);
-    let mut tally = [0; 9];
+    let mut tally = [0; ANSWERS.len()];
     for _ in 0..count {
         let input = maker.record(&mut random);
         let lowest = if random.once_in(2) { 0 } else { 10 };
         let output_length = random.between(lowest, 16);
         let result = store(tables, &input, output_length);
-        tally[match &result {
-            Ok(_) => 0,
-            Err(refusal) => *refusal as usize,
-        }] += 1;
+        count_in(&mut tally, &result);
         frame(out, &input, output_length, &result)?;
     }
     Ok(tally)
@@ -243,7 +254,7 @@ impl<'a> Maker<'a> {
     /// One damage, or a change that happens to be none.
     fn damage(&self, random: &mut Random, record: &mut Vec<u8>) {
         let kind = record.get(2).copied().unwrap_or(0);
-        match random.below(18) {
+        match random.below(20) {
             // The length field.
             0 => {
                 let length = record.len();
@@ -302,15 +313,26 @@ impl<'a> Maker<'a> {
                 put(record, 9, day);
             }
             12 if kind <= 2 => put(record, 9, random.below(60) as u8),
+            // The leap mark, wrong for most months; at times also a day or a
+            // name, or a month, that is in no year.
+            13 | 14 if kind <= 2 => {
+                put(record, 8, 1);
+                if random.once_in(3) {
+                    put(record, 9, random.pick(&[0, 31, 60, 255]));
+                }
+                if random.once_in(8) {
+                    put(record, 7, random.pick(&[0, 13]));
+                }
+            }
             // The ordinal.
-            8..=12 if kind == 3 => {
+            8..=14 if kind == 3 => {
                 let any = random.below(65_536);
                 let near = random.between(354, 385);
                 let ordinal = random.pick(&[0, 1, near, near, near, near, 256, 512, 65_535, any]);
                 put_two(record, 7, ordinal);
             }
             // The register day.
-            8..=12 => {
+            8..=14 => {
                 let any = random.next() as u32;
                 let edge = random.pick(&self.edges);
                 let day = random.pick(&[edge, edge, edge, edge, any]);
@@ -318,23 +340,23 @@ impl<'a> Maker<'a> {
                 put_two(record, 7, day as usize / 65_536);
             }
             // Any byte, or one bit of it.
-            13 if !record.is_empty() => {
+            15 if !record.is_empty() => {
                 let at = random.below(record.len());
                 record[at] = random.byte();
             }
-            14 if !record.is_empty() => {
+            16 if !record.is_empty() => {
                 let at = random.below(record.len());
                 record[at] ^= 1 << random.below(8);
             }
             // Cut, the length field left or made to fit.
-            15 | 13 | 14 => {
+            15 | 16 | 17 => {
                 let length = random.below(record.len() + 1);
                 record.truncate(length);
                 if random.once_in(3) {
                     put_two(record, 0, length);
                 }
             }
-            16 => record.truncate(random.below(5)),
+            18 => record.truncate(random.below(5)),
             // Lengthened, the length field left or made to fit.
             _ => {
                 let length = random.between(record.len(), 20);

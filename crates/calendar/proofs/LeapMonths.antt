@@ -1,7 +1,7 @@
 -- The leap month of a year: its number, and how it is found.
 use Prim.Native.Nat.{ℕ, zero, suc, _+_, _*_, _%_, _≤_, _<_}
 use mathlib.Core.Path.{_≡_, refl, subst, sym, ap, _∙_}
-use mathlib.Core.Bool.{Bool, true, false, true≢false}
+use mathlib.Core.Bool.{true, false, true≢false}
 use mathlib.Core.Logic.{_⊎_, inl, inr, ⊎-elim, _↔_}
 use native.Mathlib.Omega.{arith}
 use borrow.Author.Tests.{lt-ltb, ltb-true, ltb-false}
@@ -12,34 +12,13 @@ use Rattle.calendar.specs.Year.{InYear, HasLeap, LeapNumber}
 use Rattle.calendar.specs.Consistent.{Consistent}
 use Rattle.calendar.specs.Calendar.{Calendar}
 use Rattle.calendar.specs.ClosedForms.{monthOfQi, firstMonth, monthNumber, qiOfNumber, monthCited, leapFollows}
-use Rattle.calendar.specs.LeapMonth.{lastLeap, leapNumber, inStep, further, lastPlace, leapPlace}
+use Rattle.calendar.specs.LeapMonth.{lastLeap, leapNumber, inStep, StepEnds}
 use Rattle.calendar.proofs.Cases.{by-bool}
 use Rattle.calendar.proofs.Rising.{by-order, even-rise}
 use Rattle.calendar.proofs.Reckoned.{reckoned}
 use Rattle.calendar.proofs.Spans.{span}
-use Rattle.calendar.proofs.Numbers.{number-unique, mark-unique}
+use Rattle.calendar.proofs.Numbers.{number-unique}
 use Rattle.calendar.proofs.Laws.{year-months, twelve-none-lacks, thirteen-one-leap, leap-follows, leap-cited, number-inside}
-
--- Halving: the test holds at a place, and not so much further on, unless that is past the end.
-record Between (p : ℕ → Bool) (at width : ℕ) : Type 0 where
-  here : p at ≡ true
-  beyond : at + width < 16 → p (at + width) ≡ false
-
-module _ (p : ℕ → Bool) where
-  halve : (at width : ℕ) → Between p at (width + width) → Between p (further p at width) width
-  halve at width b =
-      by-bool (p (at + width))
-      (λ e.
-      let moved : further p at width ≡ at + width = simp e in
-      let same : at + (width + width) ≡ at + width + width = omega arith in
-      subst (λ x. Between p x width) (sym moved)
-      (record { here = e; beyond = λ l. subst (λ x. p x ≡ false) same (b .beyond (omega arith)) }))
-      (λ e.
-      let stays : further p at width ≡ at = simp e in
-      subst (λ x. Between p x width) (sym stays) (record { here = b .here; beyond = λ l. e }))
-
-  found : p 0 ≡ true → Between p (lastPlace p) 1
-  found e = halve _ 1 (halve _ 2 (halve _ 4 (halve 0 8 (record { here = e; beyond = λ l. absurd (omega arith) }))))
 
 module _ (c : Constants) (ok : Consistent c) where
   abbrev K : Calendar
@@ -116,40 +95,39 @@ module _ (c : Constants) (ok : Consistent c) where
       (λ none. inr (none .0, λ number h. none .1 number (leap-inside n number h .at-most) h))
       (found-to n 12 (omega arith))
 
-  -- The place halved down to tells it.
-  place-found : (n : ℕ) → Between (inStep c n) (leapPlace c n) 1
-  unfolding leapPlace
-  place-found n =
+  -- Where the months fall out of step. They do not at the solstice;
+  pub step-begins : (n : ℕ) → StepEnds c n 0 16
+  step-begins n =
       let e : 12 * n + 0 ≡ 12 * n = omega arith in
-      found (inStep c n) (lt-ltb (monthOfQi c (12 * n + 0)) (firstMonth c n + 0 + 1) (omega (arith, ap (monthOfQi c) e)))
+      record {
+        below = omega arith;
+        most = omega arith;
+        kept = lt-ltb (monthOfQi c (12 * n + 0)) (firstMonth c n + 0 + 1) (omega (arith, ap (monthOfQi c) e));
+        lost = λ l. absurd (omega arith);
+      }
 
-  in-step : (n i : ℕ) → inStep c n i ≡ true → monthOfQi c (12 * n + i) < firstMonth c n + i + 1
-  in-step n i e = ltb-true (monthOfQi c (12 * n + i)) (firstMonth c n + i + 1) e
-
-  ahead : (n i : ℕ) → inStep c n i ≡ false → firstMonth c n + i + 1 ≤ monthOfQi c (12 * n + i)
-  ahead n i e = ltb-false (monthOfQi c (12 * n + i)) (firstMonth c n + i + 1) e
-
-  -- up to it the months keep step with the middle qi
-  place-kept : (n i : ℕ) → i ≤ leapPlace c n → monthOfQi c (12 * n + i) ≡ firstMonth c n + i
-  place-kept n i l =
-      even-rise (monthOfQi c) (K .qi-rises) (leapPlace c n) i (12 * n) (omega (arith, in-step n (leapPlace c n) (place-found n .here)))
+  -- where they have kept step up to some middle qi, they have up to each before it.
+  kept-up : (n low i : ℕ) → inStep c n low ≡ true → i ≤ low → monthOfQi c (12 * n + i) ≡ firstMonth c n + i
+  kept-up n low i e l =
+      even-rise (monthOfQi c) (K .qi-rises) low i (12 * n)
+      (omega (arith, ltb-true (monthOfQi c (12 * n + low)) (firstMonth c n + low + 1) e))
       l
 
-  pub number-at-place : (n : ℕ) → leapPlace c n < 12 → numberOf (leapPlace c n % 12) ≡ leapNumber c n
-  number-at-place n l =
-      let at = leapPlace c n in
+  -- So the last middle qi in step tells the leap month.
+  pub number-at-end : (n at : ℕ) → StepEnds c n at (at + 1) → at < 12 → numberOf (at % 12) ≡ leapNumber c n
+  number-at-end n at s l =
       let number = numberOf (at % 12) in
-      let beyond = ahead n (at + 1) (place-found n .beyond (omega arith)) in
+      let ahead = ltb-false (monthOfQi c (12 * n + (at + 1))) (firstMonth c n + (at + 1) + 1) (s .lost (omega arith)) in
       let qi : qiOfNumber n number ≡ 12 * n + at = omega arith in
       let next : qiOfNumber n number + 1 ≡ 12 * n + (at + 1) = omega arith in
       let follows : leapFollows c n number ≡ true =
       lt-ltb (monthOfQi c (qiOfNumber n number) + 1) (monthOfQi c (qiOfNumber n number + 1))
-      (omega (arith, ap (monthOfQi c) qi, ap (monthOfQi c) next, place-kept n at (omega arith)))
+      (omega (arith, ap (monthOfQi c) qi, ap (monthOfQi c) next, kept-up n at at (s .kept) (omega arith)))
       in
       leap-number-unique n number (leapNumber c n) (inl (has-leap n number (omega arith) follows)) (leap-number n)
 
-  pub number-past-places : (n : ℕ) → 12 ≤ leapPlace c n → 0 ≡ leapNumber c n
-  number-past-places n l =
+  pub number-past-year : (n at : ℕ) → StepEnds c n at (at + 1) → 12 ≤ at → 0 ≡ leapNumber c n
+  number-past-year n at s l =
       let e : 12 * (n + 1) ≡ 12 * n + 12 = omega arith in
-      let twelve : firstMonth c (n + 1) ≡ firstMonth c n + 12 = ap (monthOfQi c) e ∙ place-kept n 12 l in
+      let twelve : firstMonth c (n + 1) ≡ firstMonth c n + 12 = ap (monthOfQi c) e ∙ kept-up n at 12 (s .kept) l in
       leap-number-unique n 0 (leapNumber c n) (inr (refl, λ number h. none-of-twelve n number twelve h)) (leap-number n)

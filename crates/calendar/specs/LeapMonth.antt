@@ -1,6 +1,7 @@
--- The leap month of a year, found: by its number, and by its place among the year's middle qi.
-use Prim.Native.Nat.{ℕ, zero, suc, _+_, _*_}
-use mathlib.Core.Bool.{Bool, cond}
+-- The leap month of a year: its number, and its place among the year's middle qi.
+use Prim.Native.Nat.{ℕ, zero, suc, _+_, _*_, _≤_, _<_}
+use mathlib.Core.Path.{_≡_}
+use mathlib.Core.Bool.{Bool, true, false, cond}
 use lib.Dec.{ltb}
 use Rattle.calendar.specs.declared.data.Constants.{Constants}
 use Rattle.calendar.specs.ClosedForms.{monthOfQi, firstMonth, leapFollows}
@@ -15,18 +16,14 @@ abbrev pub leapNumber : Constants → ℕ → ℕ
 leapNumber c n = lastLeap c n 12
 
 -- Middle qi i of year n falls in the month i after the year's first: none up to there is leap. From the leap month on
--- the middle qi are a month ahead.
+-- the middle qi fall a month later.
 abbrev pub inStep : Constants → ℕ → ℕ → Bool
 inStep c n i = ltb (monthOfQi c (12 * n + i)) (firstMonth c n + i + 1)
 
--- A place moved on by a step where the test holds there.
-abbrev pub further : (ℕ → Bool) → ℕ → ℕ → ℕ
-further p at step = cond (p (at + step)) (at + step) at
-
--- The last place below 16 up to which the test holds, halved down to.
-abbrev pub lastPlace : (ℕ → Bool) → ℕ
-lastPlace p = further p (further p (further p (further p 0 8) 4) 2) 1
-
--- The middle qi of year n whose month the leap month follows; 12 or more where there is none.
-unfoldable pub leapPlace : Constants → ℕ → ℕ
-leapPlace c n = lastPlace (inStep c n)
+-- The months of year n fall out of step after middle qi `low` and no later than `high`, 16 if it is not known when: the
+-- leap month lies between the months of the two.
+pub record StepEnds (c : Constants) (n low high : ℕ) : Type 0 where
+  pub below : low < high
+  pub most : high ≤ 16
+  pub kept : inStep c n low ≡ true
+  pub lost : high < 16 → inStep c n high ≡ false

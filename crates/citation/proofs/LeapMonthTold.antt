@@ -29,9 +29,9 @@ module _ (s : List ℕ) where
       go (Judged.refused number told some tells e rows) = subst (λ j. Tells s (j .refusal) (j .told)) (sym e) tells
       go (Judged.accepted z nothing rows kept) = inr (λ e. omega arith, nothing)
 
-  pub nothing-told : {j : Judgement} → j ≡ judgeOf s → j .refusal ≡ 0 → toldOf s ≡ 0
-  nothing-told e z =
-      ⊎-elim (λ t. absurd (omega (arith, t .0, ap (λ j. j .refusal) e))) (λ t. t .1) judgement-tells
+  pub nothing-told : {j : Judgement} → j ≡ judgeOf s → (j .refusal ≡ LEAP → ⊥) → toldOf s ≡ 0
+  nothing-told e other =
+      ⊎-elim (λ t. absurd (other (ap (λ j. j .refusal) e ∙ t .0))) (λ t. t .1) judgement-tells
 
   -- The storing step tells it rightly,
   pub told-rightly : (room : ℕ) → Tells s (refusalOf s room) (toldOf s)
@@ -43,7 +43,7 @@ module _ (s : List ℕ) where
             by-order room 10
             (λ h. omega (arith, refusal-output s room (judgeOf s) refl z h))
             (λ h. omega (arith, refusal-none s room (judgeOf s) refl z h)),
-        nothing-told refl z,
+        nothing-told refl (λ e. omega arith),
       ))
       (λ some. subst (λ number. Tells s number (toldOf s)) (sym (refusal-kept s room (judgeOf s) refl some)) judgement-tells)
 

@@ -1,10 +1,12 @@
 // The storing step.
 ghost use mathlib.Core.Path.{_≡_};
-ghost use Prim.Native.Nat.{_≤_};
+ghost use Prim.Native.Nat.{_+_, _*_, _^_, _≤_};
 ghost use mathlib.Core.List.{_++_};
 ghost use lib.ListN.{length, drop};
+ghost use Rattle.reckoning.specs.RefusalNumbers.{LEAP};
 ghost use Rattle.citation.specs.Store.{answerOf, storedInto};
 use crate::judge::judge;
+use reckoning::refusal_numbers::LEAP;
 use reckoning::refusal_numbers::OUTPUT;
 
 // 2^32: a refusal number stands above the 32 bits of a day,
@@ -12,6 +14,17 @@ const REFUSAL_UNIT: u64 = 4_294_967_296;
 
 // and 2^40: the month that it tells stands above its 8 bits.
 const TOLD_UNIT: u64 = 1_099_511_627_776;
+
+// The answer of a refusal. LEAP alone tells something, so that no other waits for it.
+fn refused(refusal: u8, told: u8) -> u64
+    requires { ⌜ ((refusal ≡ LEAP → ⊥) → told ≡ 0) ⌝ }
+    ensures { λ r. ⌜ r ≡ refusal * 2 ^ 32 + told * 2 ^ 40 ⌝ }
+{
+    if refusal == LEAP {
+        return LEAP as u64 * REFUSAL_UNIT + told as u64 * TOLD_UNIT;
+    }
+    refusal as u64 * REFUSAL_UNIT
+}
 
 // The ten bytes of a record at the front of an output.
 fn put(output: &mut [u8], stored: [u8; 10])
@@ -39,9 +52,9 @@ pub extern "C" fn chiselbrow_store(input: &[u8], output: &mut [u8]) -> u64
     ensures { λ _. ⌜ now (output .exit) ≡ storedInto (now (input .entry)) (now (output .entry)) ⌝ }
 {
     let j = judge(input);
-    let refusal = j.refusal as u64;
+    let refusal = j.refusal;
     if refusal != 0 {
-        return refusal * REFUSAL_UNIT + j.told as u64 * TOLD_UNIT;
+        return refused(refusal, j.told);
     }
     if output.len() < 10 {
         return OUTPUT as u64 * REFUSAL_UNIT;

@@ -58,6 +58,11 @@ picks-guantian system e = simp (eq-eqb system 1 e)
 pub picks-jiyuan : (system : ℕ) → (system ≡ 1 → ⊥) → constantsOf system ≡ jiyuan
 picks-jiyuan system h = simp (ne-eqb system 1 h)
 
+-- What the constants picked give, those of the system give.
+pub picked : {A : Type 0} (f : Constants → A) (system : ℕ) {c : Constants} {r : A} → constantsOf system ≡ c → r ≡ f c
+    → r ≡ f (constantsOf system)
+picked f system e is = is ∙ sym (ap f e)
+
 pub in-register-here : (system year : ℕ) (c : Constants) → constantsOf system ≡ c → yearRefusal system year ≡ 0
     → YearInRegister c (yearsElapsed c year)
 in-register-here system year c e z =

@@ -1,6 +1,6 @@
--- How the leap month of a year is found: what each test shows, and where the place moves.
-use Prim.Native.Nat.{ℕ, _+_, _*_, _%_, _≤_, _<_}
-use mathlib.Core.Path.{_≡_, sym, ap, _∙_}
+-- How the leap month of a year is found: what each test shows, and what is left between the bounds.
+use Prim.Native.Nat.{ℕ, _+_, _*_, _-_, _/_, _%_, _≤_, _<_}
+use mathlib.Core.Path.{_≡_, subst, sym, ap, _∙_}
 use mathlib.Core.Bool.{Bool, true, false}
 use lib.Dec.{ltb}
 use native.Mathlib.Omega.{arith}
@@ -8,11 +8,11 @@ use borrow.Author.Tests.{lt-ltb, le-ltb}
 use Rattle.calendar.specs.declared.data.Constants.{Constants}
 use Rattle.calendar.specs.Month.{monthHead, numberOf}
 use Rattle.calendar.specs.ClosedForms.{dayOfQi, monthOfQi, firstMonth}
-use Rattle.calendar.specs.LeapMonth.{leapNumber, inStep, further, leapPlace}
+use Rattle.calendar.specs.LeapMonth.{leapNumber, inStep, StepEnds}
 use Rattle.calendar.proofs.Rising.{by-order}
 use Rattle.calendar.proofs.Reckoned.{month-from, month-before}
 use Rattle.calendar.proofs.EveryCalendar.{first-rises}
-use Rattle.calendar.proofs.LeapMonths.{number-at-place, number-past-places}
+use Rattle.calendar.proofs.LeapMonths.{number-at-end, number-past-year}
 use Rattle.calendar.proofs.Reckoned.{reckoned}
 use Rattle.reckoning.specs.declared.month_spans.MonthSpan.{MonthSpan}
 use Rattle.reckoning.specs.MonthSpans.{monthSpan}
@@ -37,23 +37,23 @@ step-tested {c} {n} {first} y i {day} {end} day-is end-is =
     ∙ sym (le-ltb k (firstMonth c n + i + 1)
     (omega (arith, month-from c ok (first + i + 1) (dayOfQi c (12 * n + i)) (omega arith)))))
 
--- The place moves on where the test holds.
-module _ (p : ℕ → Bool) (at step : ℕ) {test : Bool} (is : test ≡ p (at + step)) where
-  pub moves : test ≡ true → at + step ≡ further p at step
-  moves e = simp (sym is ∙ e)
+-- The middle of two bounds becomes the one or the other.
+module _ {c : Constants} {n low high : ℕ} (s : StepEnds c n low high) (apart : low + 1 < high) {test : Bool}
+    (is : test ≡ inStep c n ((low + high) / 2))
+  where
+    pub raised : test ≡ true → StepEnds c n ((low + high) / 2) high × (high - (low + high) / 2 < high - low)
+    raised e = (record { below = omega arith; most = s .most; kept = sym is ∙ e; lost = s .lost }, omega arith)
 
-  pub stays : test ≡ false → at ≡ further p at step
-  stays e = simp (sym is ∙ e)
+    pub lowered : test ≡ false → StepEnds c n low ((low + high) / 2) × ((low + high) / 2 - low < high - low)
+    lowered e = (
+      record { below = omega arith; most = omega (arith, s .most); kept = s .kept; lost = λ l. sym is ∙ e },
+      omega arith,
+    )
 
--- The place that four steps lead to.
-pub place-found : (c : Constants) (n : ℕ) {a b d e : ℕ} → a ≡ further (inStep c n) 0 8 → b ≡ further (inStep c n) a 4
-    → d ≡ further (inStep c n) b 2
-    → e ≡ further (inStep c n) d 1
-    → e ≡ leapPlace c n
-unfolding leapPlace
-place-found c n p q s t =
-    let step = further (inStep c n) in
-    t ∙ ap (λ x. step x 1) (s ∙ ap (λ x. step x 2) (q ∙ ap (λ x. step x 4) p))
+-- Bounds side by side.
+pub beside : {c : Constants} {n low high : ℕ} → StepEnds c n low high → high ≤ low + 1 → StepEnds c n low (low + 1)
+beside {c} {n} {low} {high} s l =
+    let e : high ≡ low + 1 = omega (arith, s .below) in subst (StepEnds c n low) e s
 
 module _ {c : Constants} {n : ℕ} (r : YearInRegister c n) where
   pub from-first : {first : MonthSpan} → first ≡ monthSpan c (firstMonth c n) → YearFrom c n (first .month)
@@ -66,10 +66,10 @@ module _ {c : Constants} {n : ℕ} (r : YearInRegister c n) where
         small = omega (arith, r .months, first-rises (reckoned c (r .constants-fit .consistent)) n);
       }
 
-  -- What the place tells.
-  pub told-none : {place : ℕ} → place ≡ leapPlace c n → 12 ≤ place → 0 ≡ leapNumber c n
-  told-none e l = number-past-places c (r .constants-fit .consistent) n (omega arith)
+  -- What the last middle qi in step tells.
+  pub told-none : {last : ℕ} → StepEnds c n last (last + 1) → 12 ≤ last → 0 ≡ leapNumber c n
+  told-none s l = number-past-year c (r .constants-fit .consistent) n _ s l
 
-  pub told-number : {place number : ℕ} → place ≡ leapPlace c n → place < 12 → number ≡ numberOf (place % 12) → number ≡ leapNumber c n
-  told-number e l is =
-      is ∙ ap (λ x. numberOf (x % 12)) e ∙ number-at-place c (r .constants-fit .consistent) n (omega arith)
+  pub told-number : {last number : ℕ} → StepEnds c n last (last + 1) → last < 12 → number ≡ numberOf (last % 12)
+      → number ≡ leapNumber c n
+  told-number s l is = is ∙ number-at-end c (r .constants-fit .consistent) n _ s l

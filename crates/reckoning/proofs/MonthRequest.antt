@@ -1,58 +1,97 @@
 -- The month of a year with a number and a leap mark: what each case of the request answers.
 use Prim.Native.Nat.{ℕ, _+_, _%_, _≤_, _<_}
-use mathlib.Core.Path.{_≡_, subst, sym, ap, _∙_}
+use mathlib.Core.Path.{_≡_, refl, subst, sym, ap, _∙_}
 use mathlib.Core.Bool.{true, false}
 use native.Mathlib.Omega.{arith}
 use borrow.Author.Tests.{lt-ltb, le-ltb}
 use Rattle.calendar.specs.declared.data.Constants.{Constants}
+use Rattle.calendar.specs.Systems.{constantsOf, yearsElapsed}
 use Rattle.calendar.specs.Month.{monthHead}
 use Rattle.calendar.specs.Calendar.{Calendar}
 use Rattle.calendar.specs.ClosedForms.{dayOfQi, monthOfQi, qiOfNumber, leapFollows}
 use Rattle.calendar.specs.LeapMonth.{leapNumber}
+use Rattle.calendar.proofs.Cases.{by-bool}
 use Rattle.calendar.proofs.Reckoned.{reckoned, month-from, month-before}
 use Rattle.calendar.proofs.EveryCalendar.{Within, within-of-qi}
+use Rattle.reckoning.specs.declared.data.Month.{Month}
 use Rattle.reckoning.specs.declared.month_spans.MonthSpan.{MonthSpan}
 use Rattle.reckoning.specs.MonthSpans.{monthSpan}
 use Rattle.reckoning.specs.WordBounds.{SpanFits, InRegister, YearInRegister}
-use Rattle.reckoning.specs.ComputedRefusals.{outside}
+use Rattle.reckoning.specs.ComputedRefusals.{outside, yearRefusal, monthWrong, leapWrong}
 use Rattle.reckoning.proofs.RefusalCases.{inside-of}
-use Rattle.reckoning.specs.Requests.{monthAt, noMonthTelling, noMonth, monthIn}
+use Rattle.reckoning.specs.Requests.{monthAt, noMonthTelling, noMonth, monthIn, monthOf}
 use Rattle.reckoning.specs.RefusalNumbers.{MONTH, LEAP}
+use Rattle.reckoning.proofs.AnswerUnless.{answered-here}
 use Rattle.reckoning.proofs.MonthSpanLaws.{span-fits}
 
-module _ (c : Constants) (n number leap : ℕ) where
-  pub number-wrong : outside 1 12 number ≡ true → noMonth MONTH ≡ monthIn c n number leap
+module _ (c : Constants) (n number leap told : ℕ) where
+  pub number-wrong : outside 1 12 number ≡ true → noMonth MONTH ≡ monthIn c n number leap told
   unfolding monthIn
   number-wrong e = simp e
 
-  pub mark-wrong : outside 1 12 number ≡ false → outside 0 1 leap ≡ true → noMonth MONTH ≡ monthIn c n number leap
+  pub mark-wrong : outside 1 12 number ≡ false → outside 0 1 leap ≡ true → noMonth MONTH ≡ monthIn c n number leap told
   unfolding monthIn
   mark-wrong e f = simp (e, f)
 
   pub ordinary-month : outside 1 12 number ≡ false → outside 0 1 leap ≡ false → leap ≡ 0
-      → monthAt c (monthOfQi c (qiOfNumber n number)) ≡ monthIn c n number leap
+      → monthAt c (monthOfQi c (qiOfNumber n number)) ≡ monthIn c n number leap told
   unfolding monthIn
   ordinary-month e f z =
       let same : monthOfQi c (qiOfNumber n number) ≡ monthOfQi c (qiOfNumber n number) + 0 = omega arith in
-      subst (λ l. monthAt c (monthOfQi c (qiOfNumber n number)) ≡ monthIn c n number l) (sym z)
+      subst (λ l. monthAt c (monthOfQi c (qiOfNumber n number)) ≡ monthIn c n number l told) (sym z)
       (ap (monthAt c) same ∙ simp e)
 
   pub leap-month : outside 1 12 number ≡ false → outside 0 1 leap ≡ false → (leap ≡ 0 → ⊥) → leapFollows c n number ≡ true
-      → monthAt c (monthOfQi c (qiOfNumber n number) + 1) ≡ monthIn c n number leap
+      → monthAt c (monthOfQi c (qiOfNumber n number) + 1) ≡ monthIn c n number leap told
   unfolding monthIn
   leap-month e f z l =
       let one : 1 ≡ leap = omega (arith, inside-of 0 1 leap f) in
-      subst (λ x. monthAt c (monthOfQi c (qiOfNumber n number) + 1) ≡ monthIn c n number x) one (simp (e, l))
+      subst (λ x. monthAt c (monthOfQi c (qiOfNumber n number) + 1) ≡ monthIn c n number x told) one (simp (e, l))
 
   pub leap-lacks : outside 1 12 number ≡ false → outside 0 1 leap ≡ false → (leap ≡ 0 → ⊥)
       → leapFollows c n number ≡ false
-      → (told : ℕ)
-      → told ≡ leapNumber c n
-      → noMonthTelling LEAP told ≡ monthIn c n number leap
+      → noMonthTelling LEAP told ≡ monthIn c n number leap told
   unfolding monthIn
-  leap-lacks e f z l told t =
+  leap-lacks e f z l =
       let one : 1 ≡ leap = omega (arith, inside-of 0 1 leap f) in
-      subst (λ x. noMonthTelling LEAP told ≡ monthIn c n number x) one (ap (noMonthTelling LEAP) t ∙ simp (e, l))
+      subst (λ x. noMonthTelling LEAP told ≡ monthIn c n number x told) one (simp (e, l))
+
+  -- What LEAP tells stands in the answer that carries it, and changes no other.
+  pub telling : (monthIn c n number leap 0) .refusal ≡ LEAP → noMonthTelling LEAP told ≡ monthIn c n number leap told
+  unfolding monthIn
+  telling is =
+      by-bool (monthWrong number leap)
+      (λ e. absurd (omega (arith, simp e at is)))
+      (λ e. by-bool (leapWrong c n number leap) (λ f. simp (e, f)) (λ f. absurd (omega (arith, simp (e, f) at is))))
+
+  pub untold : ((monthIn c n number leap 0) .refusal ≡ LEAP → ⊥) → monthIn c n number leap 0 ≡ monthIn c n number leap told
+  unfolding monthIn
+  untold other =
+      by-bool (monthWrong number leap)
+      (λ e. simp e)
+      (λ e. by-bool (leapWrong c n number leap) (λ f. absurd (other (simp (e, f)))) (λ f. simp (e, f)))
+
+-- The whole request, from the month found and what is told.
+module _ (system year number leap : ℕ) (z : yearRefusal system year ≡ 0) where
+  abbrev c : Constants
+  c = constantsOf system
+
+  abbrev n : ℕ
+  n = yearsElapsed c year
+
+  answered : monthIn c n number leap (leapNumber c n) ≡ monthOf system year number leap
+  unfolding monthOf
+  answered = answered-here (λ k m. monthIn k m number leap (leapNumber k m)) noMonth system year c refl z
+
+  module _ {m : Month} (is : m ≡ monthIn c n number leap 0) where
+    pub leap-told : {told : ℕ} → m .refusal ≡ LEAP → told ≡ leapNumber c n
+        → noMonthTelling LEAP told ≡ monthOf system year number leap
+    leap-told l t =
+        ap (noMonthTelling LEAP) t ∙ telling c n number leap (leapNumber c n) (sym (ap (λ x. x .refusal) is) ∙ l) ∙ answered
+
+    pub month-found : (m .refusal ≡ LEAP → ⊥) → m ≡ monthOf system year number leap
+    month-found l =
+        is ∙ untold c n number leap (leapNumber c n) (λ e. l (ap (λ x. x .refusal) is ∙ e)) ∙ answered
 
 -- Months of a year within the register, and whether a leap month follows one of them.
 module _ {c : Constants} {n : ℕ} (r : YearInRegister c n) (number : ℕ) {m : MonthSpan}

@@ -75,42 +75,45 @@ month-refused : (system year number leap refusal : ℕ) → yearRefusal system y
     → monthOf system year number leap ≡ noMonth refusal
 unfolding monthOf
 month-refused system year number leap refusal e some =
-    refused-year (λ c n. monthIn c n number leap) noMonth system year refusal e some
+    refused-year (λ c n. monthIn c n number leap (leapNumber c n)) noMonth system year refusal e some
 
 month-answered : (system year number leap : ℕ) → InScope system year
-    → monthIn (constantsOf system) (yearsElapsed (constantsOf system) year) number leap ≡ monthOf system year number leap
+    → let c = constantsOf system in
+    let n = yearsElapsed c year in
+    monthIn c n number leap (leapNumber c n) ≡ monthOf system year number leap
 unfolding monthOf
-month-answered system year number leap s = answered-year (λ c n. monthIn c n number leap) noMonth system year s
+month-answered system year number leap s = answered-year (λ c n. monthIn c n number leap (leapNumber c n)) noMonth system year s
 
 pub month-outcome : (system year number leap : ℕ) → O.MonthOutcome system year number leap (monthOf system year number leap)
 month-outcome system year number leap =
     let c = constantsOf system in
     let n = yearsElapsed c year in
     let ok = consistent system in
+    let told = leapNumber c n in
     let answer = month-answered system year number leap in
     by-scope system year
     (λ no-system e. O.MonthOutcome.system-refused no-system (month-refused system year number leap SYSTEM e (omega arith)))
     (λ s no-year e. O.MonthOutcome.year-refused s no-year (month-refused system year number leap YEAR e (omega arith)))
     (λ s.
     by-inside 1 12 number
-    (λ e no-number. O.MonthOutcome.month-refused s (inl no-number) (sym (number-wrong c n number leap e ∙ answer s)))
+    (λ e no-number. O.MonthOutcome.month-refused s (inl no-number) (sym (number-wrong c n number leap told e ∙ answer s)))
     (λ e number-inside.
     by-inside 0 1 leap
-    (λ f no-mark. O.MonthOutcome.month-refused s (inr no-mark) (sym (mark-wrong c n number leap e f ∙ answer s)))
+    (λ f no-mark. O.MonthOutcome.month-refused s (inr no-mark) (sym (mark-wrong c n number leap told e f ∙ answer s)))
     (λ f mark-inside.
     by-order leap 1
     (λ l.
     let zero-mark : leap ≡ 0 = omega arith in
     found-month system year number leap (monthCited c n number 0) s number-inside mark-inside
     (subst (λ x. MonthNumbered c n number x (monthCited c n number 0)) (sym zero-mark) (ordinary-cited c ok n number number-inside))
-    (ap (monthAt c) (omega arith) ∙ ordinary-month c n number leap e f zero-mark ∙ answer s))
+    (ap (monthAt c) (omega arith) ∙ ordinary-month c n number leap told e f zero-mark ∙ answer s))
     (λ l.
     let one : leap ≡ 1 = omega arith in
     by-bool (leapFollows c n number)
     (λ g.
     found-month system year number leap (monthCited c n number 1) s number-inside mark-inside
     (subst (λ x. MonthNumbered c n number x (monthCited c n number 1)) (sym one) (leap-cited c ok n number number-inside g))
-    (leap-month c n number leap e f (λ z. omega arith) g ∙ answer s))
+    (leap-month c n number leap told e f (λ z. omega arith) g ∙ answer s))
     (λ g.
     let no-leap : HasLeap c n number → ⊥ =
     λ h. true≢false (sym (leap-follows c ok n number (h .month) (number-inside .at-most) (h .is-leap)) ∙ g)
@@ -118,9 +121,9 @@ month-outcome system year number leap =
     O.MonthOutcome.leap-refused s
     (⊎-elim (λ out. out number-inside) (λ out. out mark-inside))
     (one, no-leap)
-    (leapNumber c n)
+    told
     (leap-number c ok n)
-    (sym (leap-lacks c n number leap e f (λ z. omega arith) g (leapNumber c n) refl ∙ answer s)))))))
+    (sym (leap-lacks c n number leap told e f (λ z. omega arith) g ∙ answer s)))))))
 
 neither : (a b c d : ℕ) → ltb a b || leb c d ≡ false → (b ≤ a) × (d < c)
 neither a b c d e = go (ltb a b) (leb c d) refl refl e

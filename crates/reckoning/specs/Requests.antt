@@ -123,7 +123,7 @@ unfoldable pub daysOf : ℕ → ℕ → Days
 daysOf system year = answerUnless (yearRefusal system year) system year daysIn noDays
 
 -- The month of year n with a number and a leap mark; MONTH where no month has them, and then LEAP where the year has
--- no such leap month. Refused: zeros, but LEAP tells the number of the year's leap month.
+-- no such leap month. Refused: zeros, and with LEAP the number of the year's leap month.
 abbrev pub monthAt : Constants → ℕ → Month
 monthAt c k =
     record {
@@ -139,17 +139,17 @@ noMonthTelling refusal told = record { refusal = refusal; head = asRegisterDay 0
 abbrev pub noMonth : ℕ → Month
 noMonth refusal = noMonthTelling refusal 0
 
-unfoldable pub monthIn : Constants → ℕ → ℕ → ℕ → Month
-monthIn c n number leap =
+unfoldable pub monthIn : Constants → ℕ → ℕ → ℕ → ℕ → Month
+monthIn c n number leap told =
     cond (monthWrong number leap)
     (noMonth MONTH)
     (cond (leapWrong c n number leap)
-    (noMonthTelling LEAP (leapNumber c n))
+    (noMonthTelling LEAP told)
     (monthAt c (monthCited c n number leap)))
 
 unfoldable pub monthOf : ℕ → ℕ → ℕ → ℕ → Month
 monthOf system year number leap =
-    answerUnless (yearRefusal system year) system year (λ c n. monthIn c n number leap) noMonth
+    answerUnless (yearRefusal system year) system year (λ c n. monthIn c n number leap (leapNumber c n)) noMonth
 
 -- The date of a register day: its year, its month's number and leap mark, its place in the month; DAY outside years 1
 -- to 3000. Refused: zeros.

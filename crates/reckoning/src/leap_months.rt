@@ -1,13 +1,21 @@
 // The leap month of a year, found by halving.
 ghost use mathlib.Core.Path.{_≡_};
-ghost use Prim.Native.Nat.{_+_, _≤_, _<_};
-ghost use Rattle.calendar.specs.LeapMonth.{leapNumber, inStep, further, leapPlace};
+ghost use Prim.Native.Nat.{_+_, _-_, _<_};
+ghost use Rattle.calendar.specs.Systems.{yearsElapsed};
+ghost use Rattle.calendar.specs.LeapMonth.{leapNumber, inStep, StepEnds};
 ghost use Rattle.reckoning.specs.WordBounds.{YearFrom, YearInRegister};
 use crate::closed_forms::day_of_qi;
 use crate::closed_forms::month_head;
 use crate::closed_forms::number_of_qi;
+use crate::closed_forms::years_elapsed;
 use crate::month_spans::first_of_year;
 use calendar::data::Constants;
+
+// Two middle qi of a year: up to the first the months keep step with them, up to the second they do not.
+struct Bounds {
+    low: u64,
+    high: u64,
+}
 
 // Middle qi i of year n falls before the end of the month i after the first.
 fn in_step(c: Constants, n: u64, first: u64, i: u64) -> bool
@@ -17,38 +25,51 @@ fn in_step(c: Constants, n: u64, first: u64, i: u64) -> bool
     day_of_qi(c, 12 * n + i) < month_head(c, first + i + 1)
 }
 
-// A place moved on by a step where the months there are still in step with the middle qi.
-fn moved(c: Constants, n: u64, first: u64, at: u64, step: u64) -> u64
-    requires { ⌜ YearFrom c n first × (at + step < 16) ⌝ }
-    ensures { λ r. ⌜ (r ≡ further (inStep c n) at step) × (r ≤ at + step) ⌝ }
+fn halved(c: Constants, n: u64, first: u64, b: Bounds) -> Bounds
+    requires { ⌜ YearFrom c n first × StepEnds c n (b .low) (b .high) × (b .low + 1 < b .high) ⌝ }
+    ensures { λ r. ⌜ StepEnds c n (r .low) (r .high) × (r .high - r .low < b .high - b .low) ⌝ }
 {
-    if in_step(c, n, first, at + step) {
-        at + step
-    } else {
-        at
+    let middle = (b.low + b.high) / 2;
+    if in_step(c, n, first, middle) {
+        return Bounds {
+            low: middle,
+            high: b.high,
+        };
+    }
+    Bounds {
+        low: b.low,
+        high: middle,
     }
 }
 
-// The middle qi of year n whose month the leap month follows; 12 or more where there is none.
-fn place(c: Constants, n: u64) -> u64
+// The last middle qi of year n that the months keep step with.
+fn last_in_step(c: Constants, n: u64) -> u64
     requires { ⌜ YearInRegister c n ⌝ }
-    ensures { λ r. ⌜ r ≡ leapPlace c n ⌝ }
+    ensures { λ r. ⌜ StepEnds c n r (r + 1) ⌝ }
 {
     let first = first_of_year(c, n);
-    let at = moved(c, n, first.month, 0, 8);
-    let at = moved(c, n, first.month, at, 4);
-    let at = moved(c, n, first.month, at, 2);
-    moved(c, n, first.month, at, 1)
+    let mut b = Bounds { low: 0, high: 16 };
+    while b.low + 1 < b.high {
+        b = halved(c, n, first.month, b);
+    }
+    b.low
 }
 
 // The number of year n's leap month; 0 where it has none.
-pub(crate) fn number(c: Constants, n: u64) -> u8
+fn number(c: Constants, n: u64) -> u8
     requires { ⌜ YearInRegister c n ⌝ }
     ensures { λ r. ⌜ r ≡ leapNumber c n ⌝ }
 {
-    let place = place(c, n);
-    if 12 <= place {
+    let last = last_in_step(c, n);
+    if 12 <= last {
         return 0;
     }
-    number_of_qi(place)
+    number_of_qi(last)
+}
+
+pub(crate) fn number_of_common_year(c: Constants, year: u32) -> u8
+    requires { ⌜ YearInRegister c (yearsElapsed c year) ⌝ }
+    ensures { λ r. ⌜ r ≡ leapNumber c (yearsElapsed c year) ⌝ }
+{
+    number(c, years_elapsed(c, year))
 }

@@ -3,8 +3,11 @@
 // System, year and qi number come as 32 bits, so that no number is cut before it can be refused. A refused request
 // gives a blank answer that carries the refusal number.
 ghost use mathlib.Core.Path.{_≡_};
+ghost use Rattle.calendar.specs.Systems.{constantsOf, yearsElapsed};
 ghost use Rattle.calendar.specs.SixtyDayName.{nameOf};
-ghost use Rattle.reckoning.specs.Requests.{solsticeOf, qiOf, yearOf, sheetOf, daysOf, monthOf, dateOf};
+ghost use Rattle.calendar.specs.LeapMonth.{leapNumber};
+ghost use Rattle.reckoning.specs.ComputedRefusals.{yearRefusal};
+ghost use Rattle.reckoning.specs.Requests.{solsticeOf, qiOf, yearOf, sheetOf, daysOf, monthIn, monthOf, dateOf};
 use calendar::data::DayName;
 use calendar::data::RegisterDay;
 use calendar::systems::guantian;
@@ -16,6 +19,7 @@ use data::Qi;
 use data::Sheet;
 use data::Solstice;
 use data::Year;
+use refusal_numbers::LEAP;
 
 mod asked;
 mod closed_forms;
@@ -113,6 +117,28 @@ pub fn days(system: u32, year: u32) -> Days
     year_days::of_common_year(jiyuan(), year)
 }
 
+// The number of a year's leap month; 0 where it has none.
+fn leap_month(system: u32, year: u32) -> u8
+    requires { ⌜ yearRefusal system year ≡ 0 ⌝ }
+    ensures { λ r. ⌜ r ≡ leapNumber (constantsOf system) (yearsElapsed (constantsOf system) year) ⌝ }
+{
+    if system == 1 {
+        return leap_months::number_of_common_year(guantian(), year);
+    }
+    leap_months::number_of_common_year(jiyuan(), year)
+}
+
+// The month of a year with a number and a leap mark; with LEAP nothing is told.
+fn month_untold(system: u32, year: u32, number: u32, leap: u32) -> Month
+    requires { ⌜ yearRefusal system year ≡ 0 ⌝ }
+    ensures { λ r. ⌜ r ≡ monthIn (constantsOf system) (yearsElapsed (constantsOf system) year) number leap 0 ⌝ }
+{
+    if system == 1 {
+        return months::month_of_common_year(guantian(), year, number, leap);
+    }
+    months::month_of_common_year(jiyuan(), year, number, leap)
+}
+
 // The month of a year with a number and a leap mark; refused MONTH where no month has them, and LEAP, with the number
 // of the year's leap month, where the year has no such leap month.
 pub fn month(system: u32, year: u32, number: u32, leap: u32) -> Month
@@ -122,10 +148,11 @@ pub fn month(system: u32, year: u32, number: u32, leap: u32) -> Month
     if refusal != 0 {
         return months::none(refusal);
     }
-    if system == 1 {
-        return months::month_of_common_year(guantian(), year, number, leap);
+    let month = month_untold(system, year, number, leap);
+    if month.refusal == LEAP {
+        return months::none_telling(LEAP, leap_month(system, year));
     }
-    months::month_of_common_year(jiyuan(), year, number, leap)
+    month
 }
 
 // The date of a register day; refused DAY outside years 1 to 3000.

@@ -10,7 +10,6 @@ use crate::closed_forms::register_day;
 use crate::closed_forms::years_elapsed;
 use crate::data::Month;
 use crate::data::Year;
-use crate::leap_months;
 use crate::month_spans::MonthSpan;
 use crate::month_spans::after;
 use crate::month_spans::first_of_year;
@@ -77,7 +76,7 @@ fn at(c: Constants, m: MonthSpan) -> Month
 }
 
 // No month; with LEAP, the number of the year's leap month is told.
-fn none_telling(refusal: u8, told: u8) -> Month
+pub(crate) fn none_telling(refusal: u8, told: u8) -> Month
     ensures { λ r. ⌜ r ≡ noMonthTelling refusal told ⌝ }
 {
     Month {
@@ -94,10 +93,11 @@ pub(crate) fn none(refusal: u8) -> Month
     none_telling(refusal, 0)
 }
 
-// The month of year n with a number and a leap mark.
+// The month of year n with a number and a leap mark. Which month is leap, if not this one, is found elsewhere: with that
+// search in it, this function would be too long for the compiler to copy it to each system's constants.
 fn month_of_year(c: Constants, n: u64, number: u32, leap: u32) -> Month
     requires { ⌜ YearInRegister c n ⌝ }
-    ensures { λ r. ⌜ r ≡ monthIn c n number leap ⌝ }
+    ensures { λ r. ⌜ r ≡ monthIn c n number leap 0 ⌝ }
 {
     if outside(1, 12, number) {
         return none(MONTH);
@@ -113,14 +113,14 @@ fn month_of_year(c: Constants, n: u64, number: u32, leap: u32) -> Month
     let next = after(c, m);
     // Not leap: it holds the next middle qi.
     if day_of_qi(c, g + 1) < next.next {
-        return none_telling(LEAP, leap_months::number(c, n));
+        return none(LEAP);
     }
     at(c, next)
 }
 
 pub(crate) fn month_of_common_year(c: Constants, year: u32, number: u32, leap: u32) -> Month
     requires { ⌜ YearInRegister c (yearsElapsed c year) ⌝ }
-    ensures { λ r. ⌜ r ≡ monthIn c (yearsElapsed c year) number leap ⌝ }
+    ensures { λ r. ⌜ r ≡ monthIn c (yearsElapsed c year) number leap 0 ⌝ }
 {
     month_of_year(c, years_elapsed(c, year), number, leap)
 }

@@ -14,7 +14,7 @@ month-of-year-requires c κs = subst (YearInRegister (c .before .args .c)) (sym 
 returns : tie.Need-returns
 returns c =
     let args = c .before .before .args in
-    c .month-of-year .ensures ∙ ap (λ n. monthIn (args .c) n (args .number) (args .leap)) (c .before .years-elapsed .ensures)
+    c .month-of-year .ensures ∙ ap (λ n. monthIn (args .c) n (args .number) (args .leap) 0) (c .before .years-elapsed .ensures)
 
 pub month-of-common-year-spec : {M : Type 1} → statement M
 month-of-common-year-spec = tie.close (tie.spec years-elapsed-requires month-of-year-requires returns)

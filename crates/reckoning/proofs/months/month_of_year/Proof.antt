@@ -44,7 +44,7 @@ none-requires : tie.Need-none-requires
 none-requires c κs = search needs
 
 returns : tie.Need-returns
-returns c = c .none .ensures ∙ number-wrong _ _ _ _ (sym (c .before .before .outside .ensures) ∙ c .before .if1 .taken)
+returns c = c .none .ensures ∙ number-wrong _ _ _ _ 0 (sym (c .before .before .outside .ensures) ∙ c .before .if1 .taken)
 
 outside-requires-2 : tie.Need-outside-requires-2
 outside-requires-2 c κs = search needs
@@ -55,7 +55,7 @@ none-requires-2 c κs = search needs
 returns-2 : tie.Need-returns-2
 returns-2 c =
     let mark-outside = sym (c .before .before .outside2 .ensures) ∙ c .before .if2 .taken in
-    c .none2 .ensures ∙ mark-wrong _ _ _ _ (number-inside (number-passed (c .before .before))) mark-outside
+    c .none2 .ensures ∙ mark-wrong _ _ _ _ 0 (number-inside (number-passed (c .before .before))) mark-outside
 
 mul-g : tie.Need-mul-g
 mul-g c = search needs
@@ -76,7 +76,7 @@ returns-3 : tie.Need-returns-3
 returns-3 c =
     let qi = c .before .before in
     let passed = mark-passed qi in
-    let month = ordinary-month _ _ _ _ (number-inside (inside passed)) (mark-inside passed) (c .before .if3 .taken) in
+    let month = ordinary-month _ _ _ _ 0 (number-inside (inside passed)) (mark-inside passed) (c .before .if3 .taken) in
     c .at .ensures ∙ ap (λ m. monthAt (start (inside passed) .args .c) (m .month)) (qi .of-qi .ensures) ∙ month
 
 after-requires : tie.Need-after-requires
@@ -88,23 +88,18 @@ add-day-of-qi c = search needs
 day-of-qi-requires : tie.Need-day-of-qi-requires
 day-of-qi-requires c κs = search needs
 
-number-requires : tie.Need-number-requires
-number-requires c κs = search needs
-
-none-telling-requires : tie.Need-none-telling-requires
-none-telling-requires c κs = search needs
+none-requires-3 : tie.Need-none-requires-3
+none-requires-3 c κs = search needs
 
 returns-4 : tie.Need-returns-4
 returns-4 c =
-    let told = c .before in
-    let day = none-after (told .before) in
+    let day = none-after (c .before) in
     let next = day .before in
     let passed = mark-passed (month next) in
     let start = start (inside passed) in
     let month-is = month next .of-qi .ensures in
-    let lacks = none-follows (start .pre) (start .args .number) month-is (next .after .ensures) (day .day-of-qi .ensures) (told .before .if4 .taken) in
-    c .none-telling .ensures
-    ∙ leap-lacks _ _ _ _ (number-inside (inside passed)) (mark-inside passed) (next .before .if3 .left) lacks _ (told .number .ensures)
+    let lacks = none-follows (start .pre) (start .args .number) month-is (next .after .ensures) (day .day-of-qi .ensures) (c .before .if4 .taken) in
+    c .none3 .ensures ∙ leap-lacks _ _ _ _ 0 (number-inside (inside passed)) (mark-inside passed) (next .before .if3 .left) lacks
 
 at-requires-2 : tie.Need-at-requires-2
 at-requires-2 c κs = search (next-fits, next-in-register)
@@ -117,7 +112,7 @@ returns-5 c =
     let start = start (inside passed) in
     let month-is = month next .of-qi .ensures in
     let follows = one-follows (start .pre) (start .args .number) month-is (next .after .ensures) (day .day-of-qi .ensures) (c .before .if4 .left) in
-    let month = leap-month _ _ _ _ (number-inside (inside passed)) (mark-inside passed) (next .before .if3 .left) follows in
+    let month = leap-month _ _ _ _ 0 (number-inside (inside passed)) (mark-inside passed) (next .before .if3 .left) follows in
     c .at2 .ensures
     ∙ ap (λ m. monthAt (start .args .c) (m .month)) (next .after .ensures)
     ∙ ap (λ m. monthAt (start .args .c) (m .month + 1)) month-is
@@ -142,8 +137,7 @@ month-of-year-spec =
     after-requires
     add-day-of-qi
     day-of-qi-requires
-    number-requires
-    none-telling-requires
+    none-requires-3
     returns-4
     at-requires-2
     returns-5)
