@@ -12,7 +12,7 @@ use Rattle.calendar.specs.Year.{InYear, HasLeap, LeapNumber}
 use Rattle.calendar.specs.Consistent.{Consistent}
 use Rattle.calendar.specs.Calendar.{Calendar}
 use Rattle.calendar.specs.ClosedForms.{monthOfQi, firstMonth, monthNumber, qiOfNumber, monthCited, leapFollows}
-use Rattle.calendar.specs.LeapMonth.{lastLeap, leapNumber, inStep, StepEnds}
+use Rattle.calendar.specs.LeapMonth.{lastLeap, leapNumber, noLeapUpTo, LeapBetween}
 use Rattle.calendar.proofs.Cases.{by-bool}
 use Rattle.calendar.proofs.Rising.{by-order, even-rise}
 use Rattle.calendar.proofs.Reckoned.{reckoned}
@@ -95,39 +95,39 @@ module _ (c : Constants) (ok : Consistent c) where
       (λ none. inr (none .0, λ number h. none .1 number (leap-inside n number h .at-most) h))
       (found-to n 12 (omega arith))
 
-  -- Where the months fall out of step. They do not at the solstice;
-  pub step-begins : (n : ℕ) → StepEnds c n 0 16
-  step-begins n =
+  -- Where it lies among the middle qi: after the first;
+  pub between-from-first : (n : ℕ) → LeapBetween c n 0 16
+  between-from-first n =
       let e : 12 * n + 0 ≡ 12 * n = omega arith in
       record {
         below = omega arith;
         most = omega arith;
-        kept = lt-ltb (monthOfQi c (12 * n + 0)) (firstMonth c n + 0 + 1) (omega (arith, ap (monthOfQi c) e));
-        lost = λ l. absurd (omega arith);
+        none = lt-ltb (monthOfQi c (12 * n + 0)) (firstMonth c n + 0 + 1) (omega (arith, ap (monthOfQi c) e));
+        some = λ l. absurd (omega arith);
       }
 
-  -- where they have kept step up to some middle qi, they have up to each before it.
-  kept-up : (n low i : ℕ) → inStep c n low ≡ true → i ≤ low → monthOfQi c (12 * n + i) ≡ firstMonth c n + i
-  kept-up n low i e l =
+  -- where there is none up to some middle qi, each up to there is in the month of its place;
+  none-leap : (n low i : ℕ) → noLeapUpTo c n low ≡ true → i ≤ low → monthOfQi c (12 * n + i) ≡ firstMonth c n + i
+  none-leap n low i e l =
       even-rise (monthOfQi c) (K .qi-rises) low i (12 * n)
       (omega (arith, ltb-true (monthOfQi c (12 * n + low)) (firstMonth c n + low + 1) e))
       l
 
-  -- So the last middle qi in step tells the leap month.
-  pub number-at-end : (n at : ℕ) → StepEnds c n at (at + 1) → at < 12 → numberOf (at % 12) ≡ leapNumber c n
-  number-at-end n at s l =
+  -- so that the last such middle qi tells its number.
+  pub number-before-leap : (n at : ℕ) → LeapBetween c n at (at + 1) → at < 12 → numberOf (at % 12) ≡ leapNumber c n
+  number-before-leap n at s l =
       let number = numberOf (at % 12) in
-      let ahead = ltb-false (monthOfQi c (12 * n + (at + 1))) (firstMonth c n + (at + 1) + 1) (s .lost (omega arith)) in
+      let later = ltb-false (monthOfQi c (12 * n + (at + 1))) (firstMonth c n + (at + 1) + 1) (s .some (omega arith)) in
       let qi : qiOfNumber n number ≡ 12 * n + at = omega arith in
       let next : qiOfNumber n number + 1 ≡ 12 * n + (at + 1) = omega arith in
       let follows : leapFollows c n number ≡ true =
       lt-ltb (monthOfQi c (qiOfNumber n number) + 1) (monthOfQi c (qiOfNumber n number + 1))
-      (omega (arith, ap (monthOfQi c) qi, ap (monthOfQi c) next, kept-up n at at (s .kept) (omega arith)))
+      (omega (arith, ap (monthOfQi c) qi, ap (monthOfQi c) next, none-leap n at at (s .none) (omega arith)))
       in
       leap-number-unique n number (leapNumber c n) (inl (has-leap n number (omega arith) follows)) (leap-number n)
 
-  pub number-past-year : (n at : ℕ) → StepEnds c n at (at + 1) → 12 ≤ at → 0 ≡ leapNumber c n
+  pub number-past-year : (n at : ℕ) → LeapBetween c n at (at + 1) → 12 ≤ at → 0 ≡ leapNumber c n
   number-past-year n at s l =
       let e : 12 * (n + 1) ≡ 12 * n + 12 = omega arith in
-      let twelve : firstMonth c (n + 1) ≡ firstMonth c n + 12 = ap (monthOfQi c) e ∙ kept-up n at 12 (s .kept) l in
+      let twelve : firstMonth c (n + 1) ≡ firstMonth c n + 12 = ap (monthOfQi c) e ∙ none-leap n at 12 (s .none) l in
       leap-number-unique n 0 (leapNumber c n) (inr (refl, λ number h. none-of-twelve n number twelve h)) (leap-number n)

@@ -1,4 +1,4 @@
--- The leap month of a year: its number, and its place among the year's middle qi.
+-- The leap month of a year: its number, and the middle qi that it lies between.
 use Prim.Native.Nat.{ℕ, zero, suc, _+_, _*_, _≤_, _<_}
 use mathlib.Core.Path.{_≡_}
 use mathlib.Core.Bool.{Bool, true, false, cond}
@@ -15,15 +15,14 @@ lastLeap c n (suc most) = cond (leapFollows c n (suc most)) (suc most) (lastLeap
 abbrev pub leapNumber : Constants → ℕ → ℕ
 leapNumber c n = lastLeap c n 12
 
--- Middle qi i of year n falls in the month i after the year's first: none up to there is leap. From the leap month on
--- the middle qi fall a month later.
-abbrev pub inStep : Constants → ℕ → ℕ → Bool
-inStep c n i = ltb (monthOfQi c (12 * n + i)) (firstMonth c n + i + 1)
+-- None of the months up to that of middle qi i of year n is leap: it is the month i after the first. i may go on past
+-- the year.
+abbrev pub noLeapUpTo : Constants → ℕ → ℕ → Bool
+noLeapUpTo c n i = ltb (monthOfQi c (12 * n + i)) (firstMonth c n + i + 1)
 
--- The months of year n fall out of step after middle qi `low` and no later than `high`, 16 if it is not known when: the
--- leap month lies between the months of the two.
-pub record StepEnds (c : Constants) (n low high : ℕ) : Type 0 where
+-- None of the months up to that of middle qi `low` is leap, and one up to that of `high` is; a `high` of 16 says nothing.
+pub record LeapBetween (c : Constants) (n low high : ℕ) : Type 0 where
   pub below : low < high
   pub most : high ≤ 16
-  pub kept : inStep c n low ≡ true
-  pub lost : high < 16 → inStep c n high ≡ false
+  pub none : noLeapUpTo c n low ≡ true
+  pub some : high < 16 → noLeapUpTo c n high ≡ false

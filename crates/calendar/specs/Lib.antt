@@ -21,5 +21,5 @@ pub mod Consistent
 pub mod Calendar
 -- The functions by which the code reckons, with no search.
 pub mod ClosedForms
--- The leap month of a year, by its number and by its place.
+-- The leap month of a year.
 pub mod LeapMonth

@@ -67,12 +67,8 @@ NoRoom room = room < 10
 -- The rows on what a record says,
 abbrev pub contentRows : List ℕ → List Row
 contentRows s =
-    SYSTEM when WrongSystem s
-    ∷ YEAR when WrongYear s
-    ∷ MONTH when WrongMonth s
-    ∷ LEAP when WrongLeap s
-    ∷ DAY when NotPlaced s
-    ∷ []
+    SYSTEM when WrongSystem s ∷ YEAR when WrongYear s
+    ∷ MONTH when WrongMonth s ∷ LEAP when WrongLeap s ∷ DAY when NotPlaced s ∷ []
 
 -- after those on whether it is a record at all: these judge a citation by its bytes,
 abbrev pub citationRows : List ℕ → List Row

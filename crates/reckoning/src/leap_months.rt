@@ -2,7 +2,7 @@
 ghost use mathlib.Core.Path.{_≡_};
 ghost use Prim.Native.Nat.{_+_, _-_, _<_};
 ghost use Rattle.calendar.specs.Systems.{yearsElapsed};
-ghost use Rattle.calendar.specs.LeapMonth.{leapNumber, inStep, StepEnds};
+ghost use Rattle.calendar.specs.LeapMonth.{leapNumber, noLeapUpTo, LeapBetween};
 ghost use Rattle.reckoning.specs.WordBounds.{YearFrom, YearInRegister};
 use crate::closed_forms::day_of_qi;
 use crate::closed_forms::month_head;
@@ -11,26 +11,26 @@ use crate::closed_forms::years_elapsed;
 use crate::month_spans::first_of_year;
 use calendar::data::Constants;
 
-// Two middle qi of a year: up to the first the months keep step with them, up to the second they do not.
+// Two middle qi, counted from a year's first: none of the months up to the first's is leap, and one up to the second's.
 struct Bounds {
     low: u64,
     high: u64,
 }
 
-// Middle qi i of year n falls before the end of the month i after the first.
-fn in_step(c: Constants, n: u64, first: u64, i: u64) -> bool
+// None of the months up to that of middle qi i is leap: it falls before the end of the month i after the first.
+fn no_leap_up_to(c: Constants, n: u64, first: u64, i: u64) -> bool
     requires { ⌜ YearFrom c n first × (i < 16) ⌝ }
-    ensures { λ r. ⌜ r ≡ inStep c n i ⌝ }
+    ensures { λ r. ⌜ r ≡ noLeapUpTo c n i ⌝ }
 {
     day_of_qi(c, 12 * n + i) < month_head(c, first + i + 1)
 }
 
 fn halved(c: Constants, n: u64, first: u64, b: Bounds) -> Bounds
-    requires { ⌜ YearFrom c n first × StepEnds c n (b .low) (b .high) × (b .low + 1 < b .high) ⌝ }
-    ensures { λ r. ⌜ StepEnds c n (r .low) (r .high) × (r .high - r .low < b .high - b .low) ⌝ }
+    requires { ⌜ YearFrom c n first × LeapBetween c n (b .low) (b .high) × (b .low + 1 < b .high) ⌝ }
+    ensures { λ r. ⌜ LeapBetween c n (r .low) (r .high) × (r .high - r .low < b .high - b .low) ⌝ }
 {
     let middle = (b.low + b.high) / 2;
-    if in_step(c, n, first, middle) {
+    if no_leap_up_to(c, n, first, middle) {
         return Bounds {
             low: middle,
             high: b.high,
@@ -42,10 +42,10 @@ fn halved(c: Constants, n: u64, first: u64, b: Bounds) -> Bounds
     }
 }
 
-// The last middle qi of year n that the months keep step with.
-fn last_in_step(c: Constants, n: u64) -> u64
+// The last of sixteen middle qi up to whose month none is leap.
+fn last_before_leap(c: Constants, n: u64) -> u64
     requires { ⌜ YearInRegister c n ⌝ }
-    ensures { λ r. ⌜ StepEnds c n r (r + 1) ⌝ }
+    ensures { λ r. ⌜ LeapBetween c n r (r + 1) ⌝ }
 {
     let first = first_of_year(c, n);
     let mut b = Bounds { low: 0, high: 16 };
@@ -60,7 +60,7 @@ fn number(c: Constants, n: u64) -> u8
     requires { ⌜ YearInRegister c n ⌝ }
     ensures { λ r. ⌜ r ≡ leapNumber c n ⌝ }
 {
-    let last = last_in_step(c, n);
+    let last = last_before_leap(c, n);
     if 12 <= last {
         return 0;
     }

@@ -6,20 +6,20 @@ use Rattle.reckoning.proofs.leap_months.halved.Tie as tie
 add-middle : tie.Need-add-middle
 add-middle c = search needs
 
-in-step-requires : tie.Need-in-step-requires
-in-step-requires c κs = search needs
+no-leap-up-to-requires : tie.Need-no-leap-up-to-requires
+no-leap-up-to-requires c κs = search needs
 
 returns : tie.Need-returns
 returns c =
     let test = c .before in
     let pre = test .before .before .pre in
-    raised (pre .1) (pre .2) (test .in-step .ensures) (c .if1 .taken)
+    raised (pre .1) (pre .2) (test .no-leap-up-to .ensures) (c .if1 .taken)
 
 returns-2 : tie.Need-returns-2
 returns-2 c =
     let test = c .before in
     let pre = test .before .before .pre in
-    lowered (pre .1) (pre .2) (test .in-step .ensures) (c .if1 .left)
+    lowered (pre .1) (pre .2) (test .no-leap-up-to .ensures) (c .if1 .left)
 
 pub halved-spec : {M : Type 1} → statement M
-halved-spec = tie.close (tie.spec add-middle in-step-requires returns returns-2)
+halved-spec = tie.close (tie.spec add-middle no-leap-up-to-requires returns returns-2)

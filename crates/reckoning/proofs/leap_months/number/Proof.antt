@@ -3,8 +3,8 @@ use borrow.Author.Needs.{needs}
 use Rattle.reckoning.proofs.leap_months.number.Statement.{statement}
 use Rattle.reckoning.proofs.leap_months.number.Tie as tie
 
-last-in-step-requires : tie.Need-last-in-step-requires
-last-in-step-requires c κs = search needs
+last-before-leap-requires : tie.Need-last-before-leap-requires
+last-before-leap-requires c κs = search needs
 
 returns : tie.Need-returns
 returns c = search told-none
@@ -16,4 +16,4 @@ returns-2 : tie.Need-returns-2
 returns-2 c = search told-number
 
 pub number-spec : {M : Type 1} → statement M
-number-spec = tie.close (tie.spec last-in-step-requires returns number-of-qi-requires returns-2)
+number-spec = tie.close (tie.spec last-before-leap-requires returns number-of-qi-requires returns-2)

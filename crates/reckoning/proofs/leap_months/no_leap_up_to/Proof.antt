@@ -1,7 +1,7 @@
-use Rattle.reckoning.proofs.LeapMonthSearch.{step-tested}
+use Rattle.reckoning.proofs.LeapMonthSearch.{leap-tested}
 use borrow.Author.Needs.{needs}
-use Rattle.reckoning.proofs.leap_months.in_step.Statement.{statement}
-use Rattle.reckoning.proofs.leap_months.in_step.Tie as tie
+use Rattle.reckoning.proofs.leap_months.no_leap_up_to.Statement.{statement}
+use Rattle.reckoning.proofs.leap_months.no_leap_up_to.Tie as tie
 
 mul-day-of-qi : tie.Need-mul-day-of-qi
 mul-day-of-qi c = search needs
@@ -22,10 +22,10 @@ month-head-requires : tie.Need-month-head-requires
 month-head-requires c κs = search needs
 
 returns : tie.Need-returns
-returns c = search step-tested
+returns c = search leap-tested
 
-pub in-step-spec : {M : Type 1} → statement M
-in-step-spec =
+pub no-leap-up-to-spec : {M : Type 1} → statement M
+no-leap-up-to-spec =
     tie.close
     (tie.spec
     mul-day-of-qi
