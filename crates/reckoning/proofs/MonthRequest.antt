@@ -19,7 +19,7 @@ use Rattle.reckoning.specs.MonthSpans.{monthSpan}
 use Rattle.reckoning.specs.WordBounds.{SpanFits, InRegister, YearInRegister}
 use Rattle.reckoning.specs.ComputedRefusals.{outside, yearRefusal, monthWrong, leapWrong}
 use Rattle.reckoning.proofs.RefusalCases.{inside-of}
-use Rattle.reckoning.specs.Requests.{monthAt, noMonthTelling, noMonth, monthIn, monthOf}
+use Rattle.reckoning.specs.Requests.{monthAt, noMonthTelling, noMonth, monthIn, monthTelling, monthOf}
 use Rattle.reckoning.specs.RefusalNumbers.{MONTH, LEAP}
 use Rattle.reckoning.proofs.AnswerUnless.{answered-here}
 use Rattle.reckoning.proofs.MonthSpanLaws.{span-fits}
@@ -79,9 +79,9 @@ module _ (system year number leap : ℕ) (z : yearRefusal system year ≡ 0) whe
   abbrev n : ℕ
   n = yearsElapsed c year
 
-  answered : monthIn c n number leap (leapNumber c n) ≡ monthOf system year number leap
+  answered : monthTelling number leap c n ≡ monthOf system year number leap
   unfolding monthOf
-  answered = answered-here (λ k m. monthIn k m number leap (leapNumber k m)) noMonth system year c refl z
+  answered = answered-here (monthTelling number leap) noMonth system year c refl z
 
   module _ {m : Month} (is : m ≡ monthIn c n number leap 0) where
     pub leap-told : {told : ℕ} → m .refusal ≡ LEAP → told ≡ leapNumber c n

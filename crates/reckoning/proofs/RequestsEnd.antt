@@ -22,7 +22,7 @@ use Rattle.calendar.proofs.LeapMonths.{leap-number}
 use Rattle.calendar.proofs.Laws.{numbered, leap-follows, ordinary-cited, leap-cited}
 use Rattle.reckoning.specs.Scope.{SystemInScope, InScope, DayInScope}
 use Rattle.reckoning.specs.ComputedRefusals.{yearRefusal, dayWrong}
-use Rattle.reckoning.specs.Requests.{daysIn, noDays, daysOf, monthAt, noMonth, monthIn, monthOf, dateAt, dateIn, dateOf}
+use Rattle.reckoning.specs.Requests.{daysIn, noDays, daysOf, monthAt, noMonth, monthTelling, monthOf, dateAt, dateIn, dateOf}
 use Rattle.reckoning.specs.Outcomes as O
 use Rattle.reckoning.specs.RefusalNumbers.{SYSTEM, YEAR}
 use Rattle.reckoning.proofs.RefusalCases.{by-inside, by-scope}
@@ -75,14 +75,12 @@ month-refused : (system year number leap refusal : ℕ) → yearRefusal system y
     → monthOf system year number leap ≡ noMonth refusal
 unfolding monthOf
 month-refused system year number leap refusal e some =
-    refused-year (λ c n. monthIn c n number leap (leapNumber c n)) noMonth system year refusal e some
+    refused-year (monthTelling number leap) noMonth system year refusal e some
 
 month-answered : (system year number leap : ℕ) → InScope system year
-    → let c = constantsOf system in
-    let n = yearsElapsed c year in
-    monthIn c n number leap (leapNumber c n) ≡ monthOf system year number leap
+    → monthTelling number leap (constantsOf system) (yearsElapsed (constantsOf system) year) ≡ monthOf system year number leap
 unfolding monthOf
-month-answered system year number leap s = answered-year (λ c n. monthIn c n number leap (leapNumber c n)) noMonth system year s
+month-answered system year number leap s = answered-year (monthTelling number leap) noMonth system year s
 
 pub month-outcome : (system year number leap : ℕ) → O.MonthOutcome system year number leap (monthOf system year number leap)
 month-outcome system year number leap =

@@ -147,9 +147,11 @@ monthIn c n number leap told =
     (noMonthTelling LEAP told)
     (monthAt c (monthCited c n number leap)))
 
+abbrev pub monthTelling : ℕ → ℕ → Constants → ℕ → Month
+monthTelling number leap c n = monthIn c n number leap (leapNumber c n)
+
 unfoldable pub monthOf : ℕ → ℕ → ℕ → ℕ → Month
-monthOf system year number leap =
-    answerUnless (yearRefusal system year) system year (λ c n. monthIn c n number leap (leapNumber c n)) noMonth
+monthOf system year number leap = answerUnless (yearRefusal system year) system year (monthTelling number leap) noMonth
 
 -- The date of a register day: its year, its month's number and leap mark, its place in the month; DAY outside years 1
 -- to 3000. Refused: zeros.

@@ -1,7 +1,6 @@
 use mathlib.Core.Path.{_≡_, sym, _∙_}
-use Rattle.calendar.specs.LeapMonth.{leapNumber}
 use Rattle.reckoning.specs.ComputedRefusals.{yearRefusal}
-use Rattle.reckoning.specs.Requests.{monthIn, noMonth, monthOf}
+use Rattle.reckoning.specs.Requests.{noMonth, monthTelling, monthOf}
 use Rattle.reckoning.proofs.AnswerUnless.{refused-here}
 use Rattle.reckoning.proofs.MonthRequest.{leap-told, month-found}
 use borrow.Author.Needs.{needs}
@@ -32,7 +31,7 @@ returns : tie.Need-returns
 unfolding monthOf
 returns c =
     let args = c .before .before .before .args in
-    let answer = refused-here (λ k n. monthIn k n (args .number) (args .leap) (leapNumber k n)) noMonth in
+    let answer = refused-here (monthTelling (args .number) (args .leap)) noMonth in
     c .none .ensures ∙ answer _ _ _ (c .before .before .of-year .ensures) (c .before .if1 .taken)
 
 month-untold-requires : tie.Need-month-untold-requires
