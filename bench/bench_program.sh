@@ -1,6 +1,6 @@
 #!/usr/bin/env bash
-# Measures chiselbrow's program against the C one on one long stream, after
-# checking that they write the same lines.
+# Measures chiselbrow's program against the C one on two long streams, accepted
+# records and records refused 10, after checking that they write the same lines.
 #
 #     bench_program.sh CHISELBROW_PROGRAM C_PROGRAM [SEED]
 
@@ -26,18 +26,6 @@ trap 'rm -rf -- "$scratch"' EXIT
     -o "$scratch/make_records" \
     "$here/make_records.c" "$here/records.c" "$here/c_store.c"
 echo "seed $seed"
-"$scratch/make_records" "$seed" "$count" > "$scratch/records"
-
-"$chiselbrow" < "$scratch/records" > "$scratch/chiselbrow_lines"
-"$c" < "$scratch/records" > "$scratch/c_lines"
-if ! cmp -- "$scratch/chiselbrow_lines" "$scratch/c_lines"; then
-    echo "bench_program: the two programs write different lines" >&2
-    exit 1
-fi
-if [ "$(wc -l < "$scratch/c_lines")" -ne "$count" ]; then
-    echo "bench_program: not one line for each record" >&2
-    exit 1
-fi
 
 # Sets took to the microseconds that a program takes for the stream.
 time_program() {
@@ -46,20 +34,40 @@ time_program() {
     took=$((${EPOCHREALTIME/./} - start))
 }
 
-best_chiselbrow=
-best_c=
-for ((round = 0; round < rounds; round++)); do
-    time_program "$chiselbrow"
-    if [ -z "$best_chiselbrow" ] || ((took < best_chiselbrow)); then
-        best_chiselbrow=$took
+# Both programs write the same lines, one for each record.
+compare_lines() {
+    "$chiselbrow" < "$scratch/records" > "$scratch/chiselbrow_lines"
+    "$c" < "$scratch/records" > "$scratch/c_lines"
+    if ! cmp -- "$scratch/chiselbrow_lines" "$scratch/c_lines"; then
+        echo "bench_program: the two programs write different lines" >&2
+        exit 1
     fi
-    time_program "$c"
-    if [ -z "$best_c" ] || ((took < best_c)); then
-        best_c=$took
+    if [ "$(wc -l < "$scratch/c_lines")" -ne "$count" ]; then
+        echo "bench_program: not one line for each record" >&2
+        exit 1
     fi
-done
+}
 
-awk -v count="$count" -v chiselbrow="$best_chiselbrow" -v c="$best_c" 'BEGIN {
-    printf "program: chiselbrow %.1f million records a second, C %.1f million, ratio %.2f\n",
-        count / chiselbrow, count / c, chiselbrow / c
-}'
+# A stream by its name and by what make_records is asked for.
+measure() {
+    local name=$1 best_chiselbrow='' best_c='' round
+    "$scratch/make_records" "$seed" "$count" "${@:2}" > "$scratch/records"
+    compare_lines
+    for ((round = 0; round < rounds; round++)); do
+        time_program "$chiselbrow"
+        if [ -z "$best_chiselbrow" ] || ((took < best_chiselbrow)); then
+            best_chiselbrow=$took
+        fi
+        time_program "$c"
+        if [ -z "$best_c" ] || ((took < best_c)); then
+            best_c=$took
+        fi
+    done
+    awk -v name="$name" -v count="$count" -v chiselbrow="$best_chiselbrow" -v c="$best_c" 'BEGIN {
+        printf "%s: chiselbrow %.1f million records a second, C %.1f million, ratio %.2f\n",
+            name, count / chiselbrow, count / c, chiselbrow / c
+    }'
+}
+
+measure program
+measure 'program, refused 10' 10

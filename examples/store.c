@@ -4,9 +4,9 @@
  *     store 090004000168 5C2000
  *     store --version
  *
- * It prints the day and the stored record, or the refusal. Exit status: 0
- * stored, 1 refused, 2 the arguments are no hex or the output cannot be
- * written. */
+ * It prints the day and the stored record, or the refusal, with the year's leap
+ * month where the refusal tells it. Exit status: 0 stored, 1 refused, 2 the
+ * arguments are no hex or the output cannot be written. */
 
 #include <chiselbrow.h>
 #include <inttypes.h>
@@ -59,6 +59,14 @@ static size_t read_arguments(int argc, char **argv, uint8_t *bytes)
     return (size_t)(end - bytes);
 }
 
+static void print_refusal(uint64_t answer)
+{
+    printf("refused %u", chiselbrow_refusal(answer));
+    if (chiselbrow_refusal(answer) == CHISELBROW_REFUSED_LEAP)
+        printf(" %u", chiselbrow_leap_month(answer));
+    printf("\n");
+}
+
 /* The exit status for this one, if what was printed has reached its end. */
 static int finish(int status)
 {
@@ -91,7 +99,7 @@ int main(int argc, char **argv)
     free(citation);
 
     if (chiselbrow_refusal(answer) != CHISELBROW_ACCEPTED) {
-        printf("refused %u\n", chiselbrow_refusal(answer));
+        print_refusal(answer);
         return finish(1);
     }
     printf("day %" PRIu32 "\nrecord", chiselbrow_day(answer));

@@ -128,8 +128,8 @@
  * REFUSALS
  *
  * What cannot be stored is refused by a number. The conditions are tried in
- * the order of the numbers, and the first that holds is the one told; if none
- * holds the citation is stored.
+ * the order below, and the first that holds is the one told; if none holds the
+ * citation is stored.
  *
  *     1   the input is shorter than 4 bytes
  *     2   the kind is none of 1 to 4
@@ -138,12 +138,15 @@
  *     4   the system is neither 1 nor 2
  *     5   kinds 1 to 3: the year is outside 1 to 3000
  *     6   kinds 1 and 2: the month is outside 1 to 12, or the leap byte is
- *         neither 0 nor 1, or it is 1 and the year has no leap month of that
- *         number
+ *         neither 0 nor 1
+ *    10   kinds 1 and 2: the leap byte is 1, and that month of that year is
+ *         not leap; the answer tells which is
  *     7   the month has no such day (kind 1) or no day so named (kind 2), the
  *         year has no such ordinal (kind 3), or the register day is outside
  *         years 1 to 3000 of its system (kind 4)
  *     8   the output is shorter than 10 bytes
+ *
+ * Refusal 9 is of requests that are not made from C.
  */
 
 #ifndef CHISELBROW_H
@@ -156,8 +159,9 @@
  * that of the soname, rises when hosts have to be built anew, and the second
  * when a rule of the calendar changes: a record that an earlier version stored
  * can then name another day or none, and has to be stored anew, from the
- * register day that was answered with it. */
-#define CHISELBROW_VERSION "1.1.0"
+ * register day that was answered with it. The third rises with what is told,
+ * as when a refusal gets a number of its own. */
+#define CHISELBROW_VERSION "1.1.1"
 
 #ifdef __cplusplus
 extern "C" {
@@ -197,7 +201,8 @@ enum {
     CHISELBROW_REFUSED_YEAR = 5,
     CHISELBROW_REFUSED_MONTH = 6,
     CHISELBROW_REFUSED_DAY = 7,
-    CHISELBROW_REFUSED_OUTPUT = 8
+    CHISELBROW_REFUSED_OUTPUT = 8,
+    CHISELBROW_REFUSED_LEAP = 10
 };
 
 /* Stores one citation.
@@ -212,9 +217,10 @@ enum {
  *
  * Refused: no byte of the output changes.
  *
- * The answer is one number, to be taken apart by the two functions below:
- * the register day plus 2^32 times the refusal number. Accepted, the refusal
- * number is 0; refused, the day is 0. Bits 40 and up are 0.
+ * The answer is one number, to be taken apart by the three functions below:
+ * the register day plus 2^32 times the refusal number plus 2^40 times the month
+ * told with refusal 10. Accepted, the refusal number is 0; refused, the day is
+ * 0; and no other refusal tells a month. Bits 48 and up are 0.
  *
  * Any bytes may be handed in, and any lengths. Only the bytes lent are read
  * or written. A pointer whose length is 0 may be null and stands for an empty
@@ -237,6 +243,13 @@ static inline uint32_t chiselbrow_day(uint64_t answer)
 static inline unsigned chiselbrow_refusal(uint64_t answer)
 {
     return (unsigned)(answer >> 32 & 0xFFu);
+}
+
+/* With CHISELBROW_REFUSED_LEAP, the number of the leap month that the cited
+ * year has, 1 to 12, or 0 if it has none; with any other answer 0. */
+static inline unsigned chiselbrow_leap_month(uint64_t answer)
+{
+    return (unsigned)(answer >> 40 & 0xFFu);
 }
 
 /* Building a citation.
