@@ -16,60 +16,58 @@
 
 enum {
     RECORDS = 100000,       /* too many for branches to be learnt by heart */
-    BATCHES = KINDS + 2,    /* one for each kind, a mixed one, refused 10 */
+    BATCHES = 6,
     ROUNDS = 15,
     OUTPUT_ROOM = 16
 };
 
 static const double shortest_round = 0.020;    /* seconds */
 
+/* Of a hundred records so many are refused. */
+static size_t make_mixed(struct random *random, uint32_t refused,
+                         uint8_t *record)
+{
+    if (random_below(random, 100) < refused)
+        return make_refused(random, record);
+    return make_accepted(random, 1 + random_below(random, KINDS), record);
+}
+
+/* What is measured: how each record is made, and of which kind, share or
+ * refusal. */
+static const struct {
+    const char *name;
+    size_t (*make)(struct random *random, uint32_t which, uint8_t *record);
+    uint32_t which;
+} makers[BATCHES] = {
+    {"kind 1", make_accepted, 1},
+    {"kind 2", make_accepted, 2},
+    {"kind 3", make_accepted, 3},
+    {"kind 4", make_accepted, 4},
+    {"mixed", make_mixed, 5},
+    {"refused 10", make_refused_by, 10}
+};
+
 /* Records one after another, with their lengths. */
 
 struct batch {
-    char name[16];
+    const char *name;
     uint8_t lengths[RECORDS];
     uint8_t bytes[RECORDS * RECORD_ROOM];
 };
 
 static struct batch batches[BATCHES];
 
-static void fill_with_kind(struct batch *batch, struct random *random,
-                           uint32_t kind)
+static void fill_batches(struct random *random)
 {
-    uint8_t *at = batch->bytes;
+    for (size_t b = 0; b < BATCHES; b++) {
+        uint8_t *at = batches[b].bytes;
 
-    snprintf(batch->name, sizeof batch->name, "kind %" PRIu32, kind);
-    for (size_t i = 0; i < RECORDS; i++) {
-        size_t length = make_accepted(random, kind, at);
-        batch->lengths[i] = (uint8_t)length;
-        at += length;
-    }
-}
-
-static void fill_mixed(struct batch *batch, struct random *random)
-{
-    uint8_t *at = batch->bytes;
-
-    snprintf(batch->name, sizeof batch->name, "mixed");
-    for (size_t i = 0; i < RECORDS; i++) {
-        uint32_t kind = 1 + random_below(random, KINDS);
-        size_t length = random_below(random, 100) < 5
-            ? make_refused(random, at)
-            : make_accepted(random, kind, at);
-        batch->lengths[i] = (uint8_t)length;
-        at += length;
-    }
-}
-
-static void fill_refused_10(struct batch *batch, struct random *random)
-{
-    uint8_t *at = batch->bytes;
-
-    snprintf(batch->name, sizeof batch->name, "refused 10");
-    for (size_t i = 0; i < RECORDS; i++) {
-        size_t length = make_refused_by(random, 10, at);
-        batch->lengths[i] = (uint8_t)length;
-        at += length;
+        batches[b].name = makers[b].name;
+        for (size_t i = 0; i < RECORDS; i++) {
+            size_t length = makers[b].make(random, makers[b].which, at);
+            batches[b].lengths[i] = (uint8_t)length;
+            at += length;
+        }
     }
 }
 
@@ -206,11 +204,7 @@ int main(int argc, char **argv)
                              : (uint64_t)time(NULL);
     printf("seed %" PRIu64 "\n", random.state);
 
-    for (uint32_t kind = 1; kind <= KINDS; kind++)
-        fill_with_kind(&batches[kind - 1], &random, kind);
-    fill_mixed(&batches[KINDS], &random);
-    fill_refused_10(&batches[KINDS + 1], &random);
-
+    fill_batches(&random);
     for (size_t i = 0; i < BATCHES; i++)
         check_batch(&batches[i]);
     for (size_t i = 0; i < BATCHES; i++)
