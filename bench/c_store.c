@@ -1,4 +1,5 @@
-/* The storing step by closed forms: no loop, no search, no table.
+/* The storing step by closed forms: no table, and no loop or search but for the
+ * leap month that refusal 10 tells.
  *
  * Months k, days d (count days) and middle qi g are all counted from the
  * epoch. Middle qi 12 N + j is number j, 0 to 11, of the year with N years

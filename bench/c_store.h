@@ -9,8 +9,8 @@
 
 /* Reads one citation record. When accepted, writes its kind 1 record in the
  * first ten output bytes and returns the register day; otherwise writes
- * nothing and returns 2^32 times the refusal number. Input and output do not
- * overlap. */
+ * nothing and returns 2^32 times the refusal number, plus 2^40 times the month
+ * that refusal 10 tells. Input and output do not overlap. */
 uint64_t c_store(const uint8_t *input, size_t input_len,
                  uint8_t *output, size_t output_len);
 

@@ -14,7 +14,7 @@ import struct
 import sys
 
 STORED_SIZE = 10
-NOT_LEAP = 10  # the one refusal that tells a month
+REFUSED_LEAP = 10  # the one refusal that tells a month
 
 
 def load():
@@ -55,7 +55,7 @@ def main():
     try:
         refusal, leap_month, day, stored = answer(load(), citation)
         if refusal != 0:
-            told = [leap_month] if refusal == NOT_LEAP else []
+            told = [leap_month] if refusal == REFUSED_LEAP else []
             print("refused", refusal, *told, flush=True)
             return 1
         print("day", day)

@@ -54,8 +54,8 @@ module _ (c : Constants) (ok : Consistent c) where
       (λ g. ⊎-elim (λ h. absurd (g .1 b h)) (λ h. g .0 ∙ sym (h .0)) q)
       p
 
-  pub zero-just-when-none : (n told : ℕ) → LeapNumber c n told → (told ≡ 0) ↔ ((number : ℕ) → HasLeap c n number → ⊥)
-  zero-just-when-none n told p = (
+  pub told-zero : (n told : ℕ) → LeapNumber c n told → (told ≡ 0) ↔ ((number : ℕ) → HasLeap c n number → ⊥)
+  told-zero n told p = (
     λ e. ⊎-elim (λ h. absurd (omega (arith, leap-inside n told h))) (λ h. h .1) p,
     λ none. ⊎-elim (λ h. absurd (none told h)) (λ h. h .0) p,
   )

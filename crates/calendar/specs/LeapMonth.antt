@@ -15,8 +15,8 @@ lastLeap c n (suc most) = cond (leapFollows c n (suc most)) (suc most) (lastLeap
 abbrev pub leapNumber : Constants → ℕ → ℕ
 leapNumber c n = lastLeap c n 12
 
--- None of the months up to that of middle qi i of year n is leap: it is the month i after the first. i may go on past
--- the year.
+-- None of the months up to that of middle qi i of year n is leap: that month is no later than i months after the year's
+-- first. i may go on past the year.
 abbrev pub noLeapUpTo : Constants → ℕ → ℕ → Bool
 noLeapUpTo c n i = ltb (monthOfQi c (12 * n + i)) (firstMonth c n + i + 1)
 

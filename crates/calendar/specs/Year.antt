@@ -64,6 +64,6 @@ pub record HasLeap (c : Constants) (n number : ℕ) : Type 0 where
   pub month : ℕ
   pub is-leap : MonthNumbered c n number 1 month
 
--- Paper 02, Q-3, what a refused leap month is told: the number of year n's leap month, or 0 if it has none.
+-- Paper 02, Q-3, what is told with refusal LEAP: the number of year n's leap month, or 0 if it has none.
 abbrev pub LeapNumber : Constants → ℕ → ℕ → Type 0
 LeapNumber c n told = HasLeap c n told ⊎ ((told ≡ 0) × ((number : ℕ) → HasLeap c n number → ⊥))

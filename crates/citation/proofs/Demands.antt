@@ -9,13 +9,13 @@ use lib.ListN.{length, drop}
 use Rattle.calendar.specs.declared.data.Constants.{Constants}
 use Rattle.calendar.specs.ExactlyOne.{ExactlyOne}
 use Rattle.calendar.specs.Systems.{constantsOf, yearsElapsed}
-use Rattle.calendar.specs.Year.{DayOfYear, HasLeap}
+use Rattle.calendar.specs.Year.{DayOfYear, HasLeap, LeapNumber}
 use Rattle.calendar.proofs.EachSystem.{consistent}
 use Rattle.calendar.proofs.Spans.{span}
+use Rattle.calendar.proofs.LeapMonths.{leap-number-unique, told-zero}
 use Rattle.calendar.proofs.Laws.{month-days, year-months, months-cover, months-stay-within, twelve-none-lacks, thirteen-one-leap}
 use Rattle.reckoning.specs.Scope.{InScope}
 use Rattle.reckoning.specs.WordedRefusals.{FirstOf, yearRows, qiRows}
-use Rattle.reckoning.specs.RefusalNumbers.{LEAP}
 use Rattle.reckoning.specs.ComputedRefusals.{yearRefusal, qiRefusal}
 use Rattle.reckoning.specs.Requests.{solsticeOf, noSolstice, qiOf, noQi, yearOf, noYear, sheetOf, noSheet, daysOf, monthOf, dateOf}
 use Rattle.reckoning.specs.Outcomes.{DaysOutcome, MonthOutcome, DateOutcome}
@@ -26,7 +26,7 @@ use Rattle.reckoning.specs.AnswerMeanings.{IsSolstice, IsQi, IsSheet}
 use Rattle.reckoning.proofs.MonthsRight as MonthsHeld
 use Rattle.reckoning.proofs.AnswersRight as AnswersHeld
 use Rattle.citation.specs.Record.{kindOf, systemOf, recordOf}
-use Rattle.citation.specs.DayCited.{constantsIn, elapsedIn, NamesDay, OnDate, Dated}
+use Rattle.citation.specs.DayCited.{NamesDay, OnDate, Dated}
 use Rattle.citation.specs.CitationRefusals.{storingRows, Accepted, Tells}
 use Rattle.citation.specs.Store.{judgeOf, refusalOf, toldOf, answerOf, storedInto}
 use Rattle.citation.proofs.OneDay.{names-unique}
@@ -47,17 +47,6 @@ refusal-is-the-first = Refusals.refusal-first
 pub no-other-refusal : (s : List ℕ) (room number : ℕ) → FirstOf (storingRows s room) number → number ≡ refusalOf s room
 no-other-refusal = Refusals.refusal-only
 
--- with LEAP, and only with it, the leap month of the year cited is told, or 0 if it has none;
-pub tells-the-leap-month : (s : List ℕ) (room : ℕ) → Tells s (refusalOf s room) (toldOf s)
-tells-the-leap-month = Telling.told-rightly
-
-pub tells-nothing-else : (s : List ℕ) (number told other : ℕ) → Tells s number told → Tells s number other → told ≡ other
-tells-nothing-else = Telling.told-only
-
-pub tells-zero-just-when-none : (s : List ℕ) (told : ℕ) → Tells s LEAP told
-    → (told ≡ 0) ↔ ((number : ℕ) → HasLeap (constantsIn s) (elapsedIn s) number → ⊥)
-tells-zero-just-when-none = Telling.told-zero
-
 -- refused, it answers day 0 with the number and what that tells, and leaves the output as it was.
 pub refused-answer : (s : List ℕ) (room : ℕ) → (refusalOf s room ≡ 0 → ⊥)
     → refusalOf s room * 2 ^ 32 + toldOf s * 2 ^ 40 ≡ answerOf s room
@@ -65,6 +54,19 @@ refused-answer s room some = answer-refused s (refusalOf s room) some room (told
 
 pub refused-changes-nothing : (s before : List ℕ) → (refusalOf s (length before) ≡ 0 → ⊥) → before ≡ storedInto s before
 refused-changes-nothing s before some = output-refused s (refusalOf s (length before)) some before refl
+
+-- Paper 02, Q-3: with LEAP, and only with it, the leap month of the year cited is told, or 0 if it has none. That is one
+-- number in each year, and 0 just when there is no leap month.
+pub tells-the-leap-month : (s : List ℕ) (room : ℕ) → Tells s (refusalOf s room) (toldOf s)
+tells-the-leap-month = Telling.told-rightly
+
+module _ (system n : ℕ) where
+  pub one-number-to-tell : (a b : ℕ) → LeapNumber (constantsOf system) n a → LeapNumber (constantsOf system) n b → a ≡ b
+  one-number-to-tell = leap-number-unique (constantsOf system) (consistent system) n
+
+  pub zero-just-when-none : (told : ℕ) → LeapNumber (constantsOf system) n told
+      → (told ≡ 0) ↔ ((number : ℕ) → HasLeap (constantsOf system) n number → ⊥)
+  zero-just-when-none = told-zero (constantsOf system) (consistent system) n
 
 -- The requests by system and year are refused by their tables too,
 pub year-refusal-is-the-first : (system year : ℕ) → FirstOf (yearRows system year) (yearRefusal system year)

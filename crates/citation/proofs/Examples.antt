@@ -1,5 +1,5 @@
 -- The proved examples of paper 01 as paper 02, Q-2, has them, and those of Q-3: one statement over a table, computed.
-use Prim.Native.Nat.{ℕ, _+_, _-_, _/_, _%_}
+use Prim.Native.Nat.{ℕ, _+_, _*_, _-_, _^_, _/_, _%_}
 use mathlib.Core.Path.{_≡_, refl}
 use mathlib.Core.List.{List, [], _∷_, map}
 use lib.ListN.{replicate}
@@ -12,7 +12,7 @@ use Rattle.calendar.specs.LeapMonth.{lastLeap}
 use Rattle.reckoning.specs.Filled.{filled}
 use Rattle.reckoning.specs.ComputedRefusals.{yearRefusal, qiRefusal}
 use Rattle.reckoning.specs.Requests.{solsticeOf, qiOf, yearOf, monthsFrom, daysOf, monthOf, monthIn, dateOf, dateIn}
-use Rattle.citation.specs.Store.{judgeRegisterDay, judgeOrdinal, judgeDay, judgeName, judgeKind, lengthRight, judgeOf, refusalOf, toldOf, storedInto}
+use Rattle.citation.specs.Store.{judgeRegisterDay, judgeOrdinal, judgeDay, judgeName, judgeKind, lengthRight, judgeOf, refusalOf, toldOf, answerOf, storedInto}
 use Rattle.reckoning.specs.YearValue.{headIn, numberIn, leapIn}
 
 pub data Question : Type 0 where
@@ -32,8 +32,9 @@ pub data Question : Type 0 where
   -- a month by its place from 1: its number and leap mark; its head and days
   Number : ℕ → ℕ → ℕ → Question
   Month : ℕ → ℕ → ℕ → Question
-  -- a citation: its refusal and the month told; its stored record, in an output of ten bytes
+  -- a citation, with an output of ten bytes: its refusal and the month told; the answer to C; its stored record
   Refusal : List ℕ → Question
+  Answer : List ℕ → Question
   Stored : List ℕ → Question
 
 pub answer : Question → List ℕ
@@ -59,6 +60,7 @@ answer (Number system year place) =
 answer (Month system year place) =
     let v = yearOf system year in (headIn v (place - 1)) ∷ (headIn v place - headIn v (place - 1)) ∷ []
 answer (Refusal s) = refusalOf s 10 ∷ toldOf s ∷ []
+answer (Answer s) = answerOf s 10 ∷ []
 answer (Stored s) = storedInto s (replicate 10 0)
 
 -- The two bytes of a number, and the rest.
@@ -120,6 +122,7 @@ table =
     -- paper 02, Q-3: a leap month 5 is refused, by date and by name, and the year's leap month told
     ∷ (Refusal (byDate 1 1094 5 1 1) gives (10 ∷ 4 ∷ []))
     ∷ (Refusal (byName 1 1094 5 1 37) gives (10 ∷ 4 ∷ []))
+    ∷ (Answer (byDate 1 1094 5 1 1) gives ((4 * 2 ^ 40 + 10 * 2 ^ 32) ∷ []))
     -- or 0, in a year of twelve months
     ∷ (Refusal (byDate 1 1092 5 1 1) gives (10 ∷ 0 ∷ []))
     ∷ (Refusal (byName 1 1092 5 1 50) gives (10 ∷ 0 ∷ []))
@@ -145,9 +148,11 @@ table =
     ∷ (Months 2 1107 gives (13 ∷ []))
     ∷ (Number 2 1107 13 gives (10 ∷ 1 ∷ []))
     ∷ (Months 2 1108 gives (12 ∷ []))
+    ∷ (Refusal (byDate 2 1107 11 1 1) gives (10 ∷ 10 ∷ []))
+    ∷ (Refusal (byDate 2 1108 10 1 1) gives (10 ∷ 0 ∷ []))
     ∷ []
 
 pub examples : map asked table ≡ map expected table
 unfolding answer asked expected table first-of-case-9 then byOrdinal byDate byName solsticeOf qiOf yearOf yearRefusal qiRefusal monthsFrom filled
-    lastLeap refusalOf storedInto judgeOf lengthRight judgeKind judgeDay judgeName judgeOrdinal judgeRegisterDay daysOf monthOf monthIn dateOf dateIn
+    lastLeap refusalOf answerOf storedInto judgeOf lengthRight judgeKind judgeDay judgeName judgeOrdinal judgeRegisterDay daysOf monthOf monthIn dateOf dateIn
 examples = refl

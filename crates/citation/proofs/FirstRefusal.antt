@@ -16,7 +16,7 @@ use Rattle.citation.specs.CitationRefusals.{TooShort, WrongKind, WrongLe
 use Rattle.citation.specs.Store.{judgeKind, judgeOf, refusalOf}
 use Rattle.citation.proofs.RowLaws.{first-unique, first-before, first-after}
 use Rattle.citation.proofs.JudgementCases.{kind-one, kind-two, kind-three, kind-four}
-use Rattle.citation.proofs.JudgementCases.{by-length, too-short, wrong-kind, wrong-length, right-record}
+use Rattle.citation.proofs.JudgementCases.{by-equal, by-length, too-short, wrong-kind, wrong-length, right-record}
 use Rattle.citation.proofs.JudgedByKind.{Judged, plainly-refused, day-judged, name-judged, ordinal-judged, register-day-judged}
 use Rattle.citation.proofs.Storing.{refusal-kept, refusal-output, refusal-none}
 
@@ -59,23 +59,34 @@ module _ (s : List ℕ) where
       subst (Judged (citationRows s) s) (right-record s refl h into l refl)
       (content-decides (judgeKind s) (λ v. omega arith) (λ v. v into) (λ v. v right) (kind-judged into)))))
 
+-- The judgement's number is that of the first row on its bytes that applies.
+pub judgement-first : (s : List ℕ) → FirstOf (citationRows s) ((judgeOf s) .refusal)
+judgement-first s = go (judged s)
+  where
+    go : Judged (citationRows s) s (judgeOf s) → FirstOf (citationRows s) ((judgeOf s) .refusal)
+    go (Judged.refused number told some tells e rows) =
+        subst (FirstOf (citationRows s)) (sym (ap (λ j. j .refusal) e)) rows
+    go (Judged.accepted z nothing rows kept) = subst (FirstOf (citationRows s)) (sym z) rows
+
 -- The number that the storing step answers is that of the first row that applies, and 0 where none does;
 pub refusal-first : (s : List ℕ) (room : ℕ) → FirstOf (storingRows s room) (refusalOf s room)
-refusal-first s room = go (judged s)
-  where
-    go : Judged (citationRows s) s (judgeOf s) → FirstOf (storingRows s room) (refusalOf s room)
-    go (Judged.refused number told some tells e rows) =
-        let number-is = ap (λ j. j .refusal) e in
-        subst (FirstOf (storingRows s room)) (sym (refusal-kept s room (judgeOf s) refl (λ z. omega arith) ∙ number-is))
-        (first-before (citationRows s) (OUTPUT when NoRoom room ∷ []) number some rows)
-    go (Judged.accepted z nothing rows kept) =
-        by-order room 10
-        (λ h.
-        subst (FirstOf (storingRows s room)) (sym (refusal-output s room (judgeOf s) refl z h))
-        (first-after (citationRows s) (OUTPUT when NoRoom room ∷ []) OUTPUT (omega arith) rows (inl (refl, h))))
-        (λ h.
-        subst (FirstOf (storingRows s room)) (sym (refusal-none s room (judgeOf s) refl z h))
-        (first-after (citationRows s) (OUTPUT when NoRoom room ∷ []) 0 (omega arith) rows (inr (λ v. omega arith, refl))))
+refusal-first s room =
+    let j = judgeOf s in
+    let rows = citationRows s in
+    let output = OUTPUT when NoRoom room ∷ [] in
+    by-equal (j .refusal) 0
+    (λ z.
+    let none = subst (FirstOf rows) z (judgement-first s) in
+    by-order room 10
+    (λ h.
+    subst (FirstOf (storingRows s room)) (sym (refusal-output s room j refl z h))
+    (first-after rows output OUTPUT (omega arith) none (inl (refl, h))))
+    (λ h.
+    subst (FirstOf (storingRows s room)) (sym (refusal-none s room j refl z h))
+    (first-after rows output 0 (omega arith) none (inr (λ v. omega arith, refl)))))
+    (λ some.
+    subst (FirstOf (storingRows s room)) (sym (refusal-kept s room j refl some))
+    (first-before rows output (j .refusal) (omega arith) (judgement-first s)))
 
 -- and no other number is.
 pub refusal-only : (s : List ℕ) (room number : ℕ) → FirstOf (storingRows s room) number → number ≡ refusalOf s room

@@ -4,7 +4,7 @@
 pub mod Record
 -- The month of a citation, and the day that it names, by the reckoning.
 pub mod DayCited
--- When each numbered refusal applies, in the table's order.
+-- When each numbered refusal applies, in the table's order, and what is told with it.
 pub mod CitationRefusals
 -- What the storing step answers and writes, for every input and output.
 pub mod Store

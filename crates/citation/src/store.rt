@@ -15,7 +15,7 @@ const REFUSAL_UNIT: u64 = 4_294_967_296;
 // and 2^40: the month that it tells stands above its 8 bits.
 const TOLD_UNIT: u64 = 1_099_511_627_776;
 
-// The answer of a refusal. LEAP alone tells something, so that no other waits for it.
+// The answer of a refusal. Only LEAP has a month to add; the others do not depend on it.
 fn refused(refusal: u8, told: u8) -> u64
     requires { ⌜ ((refusal ≡ LEAP → ⊥) → told ≡ 0) ⌝ }
     ensures { λ r. ⌜ r ≡ refusal * 2 ^ 32 + told * 2 ^ 40 ⌝ }

@@ -14,7 +14,7 @@ use Rattle.calendar.specs.declared.data.DayName.{DayName}
 use Rattle.calendar.specs.SixtyDayName.{nameOf}
 use Rattle.reckoning.specs.RefusalNumbers.{SHORT, LEAP}
 use Rattle.citation.specs.Record.{systemOf, yearField, monthField, leapField, dayField}
-use Rattle.text.specs.Piece.{year, month, line, refusedLine, refusedTellingLine}
+use Rattle.text.specs.Piece.{year, month, line, refusedWord, refusedLine, refusedTellingLine}
 use Rattle.text.specs.Wrote.{Wrote}
 use Rattle.text.proofs.Lengths.{year-length, month-length, line-length}
 use Rattle.text.proofs.Writing.{wrote-as}
@@ -83,7 +83,7 @@ stored-length stored r = words-length _ _ _ _ _ _ _
 
 refusal-length : (number told : ℕ) → length (refusalLine number told) ≤ 64
 refusal-length number told =
-    let refused = line-length (114 ∷ 101 ∷ 102 ∷ 117 ∷ 115 ∷ 101 ∷ 100 ∷ []) in
+    let refused = line-length refusedWord in
     by-bool (eqb number LEAP)
     (λ e. simp e (omega (arith, refused (number ∷ told ∷ []))))
     (λ e. simp e (omega (arith, refused (number ∷ []))))

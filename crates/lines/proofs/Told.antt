@@ -3,18 +3,23 @@ use Prim.Native.Nat.{ℕ, _+_, _*_, _/_, _%_, _<_}
 use mathlib.Core.Path.{_≡_, refl, subst, ap, ap₂, sym, _∙_}
 use mathlib.Core.List.{List}
 use native.Mathlib.Omega.{arith}
+use borrow.Author.Tests.{ne-eqb}
+use Rattle.calendar.specs.Year.{LeapNumber}
+use Rattle.calendar.proofs.EachSystem.{consistent}
+use Rattle.calendar.proofs.LeapMonths.{leap-number-unique}
+use Rattle.reckoning.specs.RefusalNumbers.{LEAP}
 use Rattle.reckoning.specs.WordedRefusals.{FirstOf}
 use Rattle.citation.specs.Record.{systemOf, recordOf}
-use Rattle.citation.specs.DayCited.{NamesDay, OnDate}
-use Rattle.citation.specs.CitationRefusals.{citationRows, Accepted, Tells}
-use Rattle.citation.specs.Store.{judgeOf}
+use Rattle.citation.specs.DayCited.{constantsIn, elapsedIn, NamesDay, OnDate}
+use Rattle.citation.specs.CitationRefusals.{citationRows, Accepted}
+use Rattle.citation.specs.Store.{judgeOf, toldOf}
 use Rattle.citation.proofs.RowLaws.{first-unique}
 use Rattle.citation.proofs.OneDay.{names-unique}
 use Rattle.citation.proofs.OneDate.{record-unique}
-use Rattle.citation.proofs.JudgedByKind.{Judged}
-use Rattle.citation.proofs.FirstRefusal.{judged}
-use Rattle.citation.proofs.LeapMonthTold.{told-only}
+use Rattle.citation.proofs.FirstRefusal.{judgement-first}
+use Rattle.citation.proofs.LeapMonthTold.{leap-told}
 use Rattle.citation.proofs.Canonical.{passed}
+use Rattle.text.specs.Piece.{refusedLine, refusedTellingLine}
 use Rattle.lines.specs.Line.{dayLine, storedLine, refusalLine, lineOf}
 use Rattle.lines.proofs.Lines.{line-refused, line-accepted}
 
@@ -38,16 +43,22 @@ line-of-day s a r year month leap day names date =
     ∙ ap₂ storedLine stored same
     ∙ told-date (systemOf s) year month leap day r
 
-pub line-of-refusal : (s : List ℕ) (number told : ℕ) → 0 < number → FirstOf (citationRows s) number → Tells s number told
-    → lineOf s ≡ refusalLine number told
-line-of-refusal s number told some first tells = go (judged s)
-  where
-    go : Judged (citationRows s) s (judgeOf s) → lineOf s ≡ refusalLine number told
-    go (Judged.refused given month more same-tells e rows) =
-        let same = first-unique (citationRows s) given number rows first in
-        let number-is : (judgeOf s) .refusal ≡ number = ap (λ j. j .refusal) e ∙ same in
-        let told-is : (judgeOf s) .told ≡ told =
-        ap (λ j. j .told) e ∙ told-only s number month told (subst (λ x. Tells s x month) same same-tells) tells
-        in
-        sym (line-refused s (judgeOf s) refl (λ z. omega arith)) ∙ ap₂ refusalLine number-is told-is
-    go (Judged.accepted z nothing rows kept) = absurd (omega (arith, first-unique (citationRows s) number 0 first rows))
+-- A refusal's line: with LEAP the leap month of the year cited, or 0 if it has none, and with any other number nothing.
+module _ (s : List ℕ) (number : ℕ) (some : 0 < number) (first : FirstOf (citationRows s) number) where
+  refusal-is : (judgeOf s) .refusal ≡ number
+  refusal-is = first-unique (citationRows s) _ number (judgement-first s) first
+
+  line-is : lineOf s ≡ refusalLine number (toldOf s)
+  line-is =
+      sym (line-refused s (judgeOf s) refl (λ z. omega (arith, refusal-is)))
+      ∙ ap (λ x. refusalLine x (toldOf s)) refusal-is
+
+  pub line-of-leap : (told : ℕ) → number ≡ LEAP → LeapNumber (constantsIn s) (elapsedIn s) told → lineOf s ≡ refusedTellingLine LEAP told
+  line-of-leap told leap is =
+      let same : toldOf s ≡ told =
+      leap-number-unique (constantsIn s) (consistent (systemOf s)) (elapsedIn s) _ told (leap-told s (refusal-is ∙ leap)) is
+      in
+      line-is ∙ ap₂ refusalLine leap same
+
+  pub line-of-refusal : (number ≡ LEAP → ⊥) → lineOf s ≡ refusedLine number
+  line-of-refusal other = line-is ∙ simp (ne-eqb number LEAP other)

@@ -16,10 +16,10 @@ use Rattle.calendar.proofs.LeapMonths.{number-before-leap, number-past-year}
 use Rattle.calendar.proofs.Reckoned.{reckoned}
 use Rattle.reckoning.specs.declared.month_spans.MonthSpan.{MonthSpan}
 use Rattle.reckoning.specs.MonthSpans.{monthSpan}
-use Rattle.reckoning.specs.WordBounds.{YearFrom, YearInRegister}
+use Rattle.reckoning.specs.WordBounds.{FirstMonthFits, YearInRegister}
 
 -- A middle qi falls before the end of a month just when its own month is no later.
-pub leap-tested : {c : Constants} {n first : ℕ} → YearFrom c n first → (i : ℕ) {day end : ℕ}
+pub leap-tested : {c : Constants} {n first : ℕ} → FirstMonthFits c n first → (i : ℕ) {day end : ℕ}
     → day ≡ dayOfQi c (12 * n + i)
     → end ≡ monthHead c (first + i + 1)
     → ltb day end ≡ noLeapUpTo c n i
@@ -56,7 +56,7 @@ beside {c} {n} {low} {high} s l =
     let e : high ≡ low + 1 = omega (arith, s .below) in subst (LeapBetween c n low) e s
 
 module _ {c : Constants} {n : ℕ} (r : YearInRegister c n) where
-  pub from-first : {first : MonthSpan} → first ≡ monthSpan c (firstMonth c n) → YearFrom c n (first .month)
+  pub from-first : {first : MonthSpan} → first ≡ monthSpan c (firstMonth c n) → FirstMonthFits c n (first .month)
   from-first is =
       let month-is = ap (λ m. m .month) is in
       record {

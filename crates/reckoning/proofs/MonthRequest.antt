@@ -64,9 +64,9 @@ module _ (c : Constants) (n number leap told : ℕ) where
       (λ e. absurd (omega (arith, simp e at is)))
       (λ e. by-bool (leapWrong c n number leap) (λ f. simp (e, f)) (λ f. absurd (omega (arith, simp (e, f) at is))))
 
-  pub untold : ((monthIn c n number leap 0) .refusal ≡ LEAP → ⊥) → monthIn c n number leap 0 ≡ monthIn c n number leap told
+  pub telling-nothing : ((monthIn c n number leap 0) .refusal ≡ LEAP → ⊥) → monthIn c n number leap 0 ≡ monthIn c n number leap told
   unfolding monthIn
-  untold other =
+  telling-nothing other =
       by-bool (monthWrong number leap)
       (λ e. simp e)
       (λ e. by-bool (leapWrong c n number leap) (λ f. absurd (other (simp (e, f)))) (λ f. simp (e, f)))
@@ -89,9 +89,9 @@ module _ (system year number leap : ℕ) (z : yearRefusal system year ≡ 0) whe
     leap-told l t =
         ap (noMonthTelling LEAP) t ∙ telling c n number leap (leapNumber c n) (sym (ap (λ x. x .refusal) is) ∙ l) ∙ answered
 
-    pub month-found : (m .refusal ≡ LEAP → ⊥) → m ≡ monthOf system year number leap
-    month-found l =
-        is ∙ untold c n number leap (leapNumber c n) (λ e. l (ap (λ x. x .refusal) is ∙ e)) ∙ answered
+    pub month-answered : (m .refusal ≡ LEAP → ⊥) → m ≡ monthOf system year number leap
+    month-answered l =
+        is ∙ telling-nothing c n number leap (leapNumber c n) (λ e. l (ap (λ x. x .refusal) is ∙ e)) ∙ answered
 
 -- Months of a year within the register, and whether a leap month follows one of them.
 module _ {c : Constants} {n : ℕ} (r : YearInRegister c n) (number : ℕ) {m : MonthSpan}

@@ -1,5 +1,5 @@
--- Numbered refusals of paper 01 as they are computed: rules in the table's order, of which the first that applies
--- counts.
+-- Numbered refusals of papers 01 and 02 as they are computed: rules in the table's order, of which the first that
+-- applies counts.
 use Prim.Native.Nat.{ℕ, _+_}
 use mathlib.Core.Bool.{Bool, cond, not, _&&_, _||_}
 use mathlib.Core.List.{List, [], _∷_}

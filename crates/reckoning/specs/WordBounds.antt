@@ -44,7 +44,7 @@ pub record YearInRegister (c : Constants) (n : ℕ) : Type 0 where
   pub head : (k : ℕ) → firstMonth c n ≤ k → k ≤ firstMonth c (n + 1) → InRegister c (monthHead c k)
 
 -- Year n and its first month, with room for sixteen middle qi and months from there.
-pub record YearFrom (c : Constants) (n first : ℕ) : Type 0 where
+pub record FirstMonthFits (c : Constants) (n first : ℕ) : Type 0 where
   pub constants-fit : ConstantsFit c
   pub elapsed : n < 2 ^ 28
   pub is-first : first ≡ firstMonth c n

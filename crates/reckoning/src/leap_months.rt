@@ -3,7 +3,7 @@ ghost use mathlib.Core.Path.{_≡_};
 ghost use Prim.Native.Nat.{_+_, _-_, _<_};
 ghost use Rattle.calendar.specs.Systems.{yearsElapsed};
 ghost use Rattle.calendar.specs.LeapMonth.{leapNumber, noLeapUpTo, LeapBetween};
-ghost use Rattle.reckoning.specs.WordBounds.{YearFrom, YearInRegister};
+ghost use Rattle.reckoning.specs.WordBounds.{FirstMonthFits, YearInRegister};
 use crate::closed_forms::day_of_qi;
 use crate::closed_forms::month_head;
 use crate::closed_forms::number_of_qi;
@@ -11,7 +11,8 @@ use crate::closed_forms::years_elapsed;
 use crate::month_spans::first_of_year;
 use calendar::data::Constants;
 
-// Two middle qi, counted from a year's first: none of the months up to the first's is leap, and one up to the second's.
+// Two middle qi, counted from a year's first: none of the months up to that of `low` is leap, and one up to that of
+// `high` is, unless `high` is 16.
 struct Bounds {
     low: u64,
     high: u64,
@@ -19,14 +20,14 @@ struct Bounds {
 
 // None of the months up to that of middle qi i is leap: it falls before the end of the month i after the first.
 fn no_leap_up_to(c: Constants, n: u64, first: u64, i: u64) -> bool
-    requires { ⌜ YearFrom c n first × (i < 16) ⌝ }
+    requires { ⌜ FirstMonthFits c n first × (i < 16) ⌝ }
     ensures { λ r. ⌜ r ≡ noLeapUpTo c n i ⌝ }
 {
     day_of_qi(c, 12 * n + i) < month_head(c, first + i + 1)
 }
 
 fn halved(c: Constants, n: u64, first: u64, b: Bounds) -> Bounds
-    requires { ⌜ YearFrom c n first × LeapBetween c n (b .low) (b .high) × (b .low + 1 < b .high) ⌝ }
+    requires { ⌜ FirstMonthFits c n first × LeapBetween c n (b .low) (b .high) × (b .low + 1 < b .high) ⌝ }
     ensures { λ r. ⌜ LeapBetween c n (r .low) (r .high) × (r .high - r .low < b .high - b .low) ⌝ }
 {
     let middle = (b.low + b.high) / 2;

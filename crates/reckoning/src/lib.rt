@@ -1,7 +1,7 @@
 // The requests by system and year: solstice, qi, months, days and day sheet; one month; the date and the name of a day.
 //
 // System, year and qi number come as 32 bits, so that no number is cut before it can be refused. A refused request
-// gives a blank answer that carries the refusal number.
+// gives a blank answer that carries the refusal number, and with LEAP the number of the year's leap month.
 ghost use mathlib.Core.Path.{_≡_};
 ghost use Rattle.calendar.specs.Systems.{constantsOf, yearsElapsed};
 ghost use Rattle.calendar.specs.SixtyDayName.{nameOf};
@@ -129,7 +129,7 @@ fn leap_month(system: u32, year: u32) -> u8
 }
 
 // The month of a year with a number and a leap mark; with LEAP nothing is told.
-fn month_untold(system: u32, year: u32, number: u32, leap: u32) -> Month
+fn month_found(system: u32, year: u32, number: u32, leap: u32) -> Month
     requires { ⌜ yearRefusal system year ≡ 0 ⌝ }
     ensures { λ r. ⌜ r ≡ monthIn (constantsOf system) (yearsElapsed (constantsOf system) year) number leap 0 ⌝ }
 {
@@ -148,7 +148,7 @@ pub fn month(system: u32, year: u32, number: u32, leap: u32) -> Month
     if refusal != 0 {
         return months::none(refusal);
     }
-    let month = month_untold(system, year, number, leap);
+    let month = month_found(system, year, number, leap);
     if month.refusal == LEAP {
         return months::none_telling(LEAP, leap_month(system, year));
     }

@@ -93,8 +93,8 @@ pub(crate) fn none(refusal: u8) -> Month
     none_telling(refusal, 0)
 }
 
-// The month of year n with a number and a leap mark. Which month is leap, if not this one, is found elsewhere: with that
-// search in it, this function would be too long for the compiler to copy it to each system's constants.
+// The month of year n with a number and a leap mark. Which month is leap, if not this one, `leap_months` finds: with
+// that search in it, this function would be too long for the compiler to copy it to each system's constants.
 fn month_of_year(c: Constants, n: u64, number: u32, leap: u32) -> Month
     requires { ⌜ YearInRegister c n ⌝ }
     ensures { λ r. ⌜ r ≡ monthIn c n number leap 0 ⌝ }

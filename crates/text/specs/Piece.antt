@@ -45,11 +45,15 @@ star leap = cond (eqb leap 0) [] (42 ∷ [])
 unfoldable pub month : ℕ → ℕ → List ℕ
 month number leap = field number ++ star leap
 
--- "refused" and numbers.
-abbrev pub refusedWith : List ℕ → List ℕ
-refusedWith numbers = line (114 ∷ 101 ∷ 102 ∷ 117 ∷ 115 ∷ 101 ∷ 100 ∷ []) numbers
+-- "refused"
+abbrev pub refusedWord : List ℕ
+refusedWord = 114 ∷ 101 ∷ 102 ∷ 117 ∷ 115 ∷ 101 ∷ 100 ∷ []
 
--- A refusal's number,
+-- and numbers:
+abbrev pub refusedWith : List ℕ → List ℕ
+refusedWith numbers = line refusedWord numbers
+
+-- a refusal's,
 abbrev pub refusedLine : ℕ → List ℕ
 refusedLine number = refusedWith (number ∷ [])
 

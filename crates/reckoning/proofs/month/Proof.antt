@@ -2,7 +2,7 @@ use mathlib.Core.Path.{_≡_, sym, _∙_}
 use Rattle.reckoning.specs.ComputedRefusals.{yearRefusal}
 use Rattle.reckoning.specs.Requests.{noMonth, monthTelling, monthOf}
 use Rattle.reckoning.proofs.AnswerUnless.{refused-here}
-use Rattle.reckoning.proofs.MonthRequest.{leap-told, month-found}
+use Rattle.reckoning.proofs.MonthRequest.{leap-told, month-answered}
 use borrow.Author.Needs.{needs}
 use Rattle.reckoning.proofs.month.Statement.{statement}
 use Rattle.reckoning.proofs.month.Tie as tie
@@ -11,10 +11,10 @@ use Rattle.reckoning.proofs.month.Tie as tie
 abbrev request : tie.Else1 → tie.Start
 request c = c .before .before
 
-abbrev refused : tie.Then2 → tie.After-month-untold
+abbrev refused : tie.Then2 → tie.After-month-found
 refused c = c .before .before
 
-abbrev found : tie.Else2 → tie.After-month-untold
+abbrev found : tie.Else2 → tie.After-month-found
 found c = c .before .before
 
 -- Neither system nor year is refused.
@@ -34,8 +34,8 @@ returns c =
     let answer = refused-here (monthTelling (args .number) (args .leap)) noMonth in
     c .none .ensures ∙ answer _ _ _ (c .before .before .of-year .ensures) (c .before .if1 .taken)
 
-month-untold-requires : tie.Need-month-untold-requires
-month-untold-requires c κs = accepted c
+month-found-requires : tie.Need-month-found-requires
+month-found-requires c κs = accepted c
 
 leap-month-requires : tie.Need-leap-month-requires
 leap-month-requires c κs = accepted (refused c .before)
@@ -48,12 +48,12 @@ returns-2 c =
     let told = c .before in
     let month = refused (told .before) in
     c .none-telling .ensures
-    ∙ leap-told _ _ _ _ (accepted (month .before)) (month .month-untold .ensures) (told .before .if2 .taken) (told .leap-month .ensures)
+    ∙ leap-told _ _ _ _ (accepted (month .before)) (month .month-found .ensures) (told .before .if2 .taken) (told .leap-month .ensures)
 
 returns-3 : tie.Need-returns-3
 returns-3 c =
     let month = found c in
-    month-found _ _ _ _ (accepted (month .before)) (month .month-untold .ensures) (c .if2 .left)
+    month-answered _ _ _ _ (accepted (month .before)) (month .month-found .ensures) (c .if2 .left)
 
 pub month-spec : {M : Type 1} → statement M
 month-spec =
@@ -62,7 +62,7 @@ month-spec =
     of-year-requires
     none-requires
     returns
-    month-untold-requires
+    month-found-requires
     leap-month-requires
     none-telling-requires
     returns-2

@@ -3,8 +3,8 @@ use Rattle.calendar.specs.Systems.{constantsOf, yearsElapsed}
 use Rattle.reckoning.specs.Requests.{monthIn}
 use Rattle.reckoning.proofs.AnswerUnless.{picks-guantian, picks-jiyuan, picked, in-register-here}
 use borrow.Author.Needs.{needs}
-use Rattle.reckoning.proofs.month_untold.Statement.{statement}
-use Rattle.reckoning.proofs.month_untold.Tie as tie
+use Rattle.reckoning.proofs.month_found.Statement.{statement}
+use Rattle.reckoning.proofs.month_found.Tie as tie
 
 -- The constants are those of the system asked for.
 guantian-picked : (c : tie.After-guantian) → constantsOf (c .before .before .args .system) ≡ c .guantian .result
@@ -37,8 +37,8 @@ returns-2 c =
     let args = c .before .before .before .args in
     picked (λ k. monthIn k (yearsElapsed k (args .year)) (args .number) (args .leap) 0) (args .system) (jiyuan-picked (c .before)) (c .month-of-common-year2 .ensures)
 
-pub month-untold-spec : {M : Type 1} → statement M
-month-untold-spec =
+pub month-found-spec : {M : Type 1} → statement M
+month-found-spec =
     tie.close
     (tie.spec
     guantian-requires
