@@ -122,9 +122,10 @@ fn help() -> u32
         \n\
         Reads citation records from standard input, one directly after another, and\n\
         writes one line for each: system, year, month with * if leap, day, register\n\
-        day and sixty-day name; or `refused` and a number. A year begins with month\n\
-        11, late in the common year before it. The manual page chiselbrow(1) tells\n\
-        the records, the refusals and the exit status.\n";
+        day and sixty-day name; or `refused` and a number, and after 10 the year's\n\
+        leap month, 0 if it has none. A year begins with month 11, late in the common\n\
+        year before it. The manual page chiselbrow(1) tells the records, the refusals\n\
+        and the exit status.\n";
     exit::reply(text, b"chiselbrow: standard output")
 }
 
