@@ -70,4 +70,4 @@ measure() {
 }
 
 measure program
-measure 'program, refused 10' 10
+measure 'program refused 10' 10

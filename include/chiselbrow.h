@@ -128,8 +128,8 @@
  * REFUSALS
  *
  * What cannot be stored is refused by a number. The conditions are tried in
- * the order below, and the first that holds is the one told; if none holds the
- * citation is stored.
+ * the order below, in which 10 stands between 6 and 7, and the first that holds
+ * is the one told; if none holds the citation is stored.
  *
  *     1   the input is shorter than 4 bytes
  *     2   the kind is none of 1 to 4
@@ -140,13 +140,15 @@
  *     6   kinds 1 and 2: the month is outside 1 to 12, or the leap byte is
  *         neither 0 nor 1
  *    10   kinds 1 and 2: the leap byte is 1, and that month of that year is
- *         not leap; the answer tells which is
+ *         not leap; the answer tells the year's leap month, or 0 if it has
+ *         none (chiselbrow_leap_month)
  *     7   the month has no such day (kind 1) or no day so named (kind 2), the
  *         year has no such ordinal (kind 3), or the register day is outside
  *         years 1 to 3000 of its system (kind 4)
  *     8   the output is shorter than 10 bytes
  *
- * Refusal 9 is of requests that are not made from C.
+ * Refusal 9 is of requests that are not made from C. Later versions can have
+ * other numbers: take any but CHISELBROW_ACCEPTED as a refusal.
  */
 
 #ifndef CHISELBROW_H
@@ -246,7 +248,9 @@ static inline unsigned chiselbrow_refusal(uint64_t answer)
 }
 
 /* With CHISELBROW_REFUSED_LEAP, the number of the leap month that the cited
- * year has, 1 to 12, or 0 if it has none; with any other answer 0. */
+ * year has, 1 to 12, or 0 if it has none; with any other answer 0. So ask
+ * chiselbrow_refusal first: 0 by itself does not say that a year has no leap
+ * month. */
 static inline unsigned chiselbrow_leap_month(uint64_t answer)
 {
     return (unsigned)(answer >> 40 & 0xFFu);

@@ -122,8 +122,8 @@ noDays refusal = record { refusal = refusal; head = asRegisterDay 0; length = 0 
 unfoldable pub daysOf : ℕ → ℕ → Days
 daysOf system year = answerUnless (yearRefusal system year) system year daysIn noDays
 
--- The month of year n with a number and a leap mark; MONTH where no month has them, and then LEAP where the year has
--- no such leap month. Refused: zeros, and with LEAP the number of the year's leap month.
+-- The month of year n with a number and a leap mark; MONTH where the number is not 1 to 12 or the mark not 0 or 1, and
+-- then LEAP where that month is not leap. Refused: zeros, and with LEAP the number of the year's leap month.
 abbrev pub monthAt : Constants → ℕ → Month
 monthAt c k =
     record {

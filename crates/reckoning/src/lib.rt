@@ -128,7 +128,7 @@ fn leap_month(system: u32, year: u32) -> u8
     leap_months::number_of_common_year(jiyuan(), year)
 }
 
-// The month of a year with a number and a leap mark; with LEAP nothing is told.
+// The month of a year with a number and a leap mark, as `month` has it, but with nothing told.
 fn month_found(system: u32, year: u32, number: u32, leap: u32) -> Month
     requires { ⌜ yearRefusal system year ≡ 0 ⌝ }
     ensures { λ r. ⌜ r ≡ monthIn (constantsOf system) (yearsElapsed (constantsOf system) year) number leap 0 ⌝ }
@@ -139,8 +139,8 @@ fn month_found(system: u32, year: u32, number: u32, leap: u32) -> Month
     months::month_of_common_year(jiyuan(), year, number, leap)
 }
 
-// The month of a year with a number and a leap mark; refused MONTH where no month has them, and LEAP, with the number
-// of the year's leap month, where the year has no such leap month.
+// The month of a year with a number and a leap mark; refused MONTH where the number is not 1 to 12 or the mark not 0 or
+// 1, and then LEAP, with the number of the year's leap month, where that month is not leap.
 pub fn month(system: u32, year: u32, number: u32, leap: u32) -> Month
     ensures { λ r. ⌜ r ≡ monthOf system year number leap ⌝ }
 {
