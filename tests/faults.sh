@@ -104,7 +104,7 @@ after_records() {
 }
 
 program=chiselbrow command=(build/chiselbrow) input=$scratch/input
-build/independent stream 4 8 2> /dev/null > "$scratch/stream"
+build/independent stream 8 8 2> /dev/null > "$scratch/stream"
 head -c "$(record_ends "$scratch/stream" | tail -n 1)" "$scratch/stream" > "$scratch/records"
 build/independent lines < "$scratch/records" > "$scratch/lines"
 
