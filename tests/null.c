@@ -54,6 +54,7 @@ int main(void)
     expect("accepted, written out", UINT64_C(2120808), 0, 2120808);
     expect("refused 8, written out", UINT64_C(8) << 32, 8, 0);
     expect_telling("refused 10, written out", UINT64_C(10) << 32 | UINT64_C(12) << 40, 10, 12, 0);
+    expect_telling("the largest of each", UINT64_C(0xFFFFFFFFFFFF), 0xFF, 0xFF, 0xFFFFFFFFu);
     expect("the largest day", UINT64_C(0xFFFFFFFF), 0, 0xFFFFFFFFu);
 
     if (failures != 0)

@@ -13,19 +13,19 @@ use Rattle.citation.specs.Record.{kindOf, systemOf, recordOf}
 use Rattle.citation.specs.DayCited.{NamesDay, OnDate}
 use Rattle.citation.specs.CitationRefusals.{Accepted, citationRows}
 use Rattle.citation.specs.DemandWords.{stored}
-use Rattle.citation.specs.Store.{judgeOf, refusalOf, toldOf, answerOf, storedInto}
+use Rattle.citation.specs.Store.{judgeOf, refusalOf, answerOf, storedInto}
 use Rattle.citation.proofs.RowLaws.{first-unique}
 use Rattle.citation.proofs.OneDay.{names-unique}
 use Rattle.citation.proofs.OneDate.{record-unique}
 use Rattle.citation.proofs.StoredRecord.{record-accepted, record-names}
 use Rattle.citation.proofs.JudgedByKind.{Judged, Kept}
 use Rattle.citation.proofs.FirstRefusal.{judged}
+use Rattle.citation.proofs.LeapMonthTold.{nothing-told}
 use Rattle.citation.proofs.Storing.{refusal-none, answer-accepted, output-accepted}
 
 -- An accepted citation's judgement is no refusal, and keeps the day that it names.
 pub record Passed (s : List ℕ) : Type 0 where
   pub no-refusal : (judgeOf s) .refusal ≡ 0
-  pub nothing-told : toldOf s ≡ 0
   pub kept : Kept s (judgeOf s)
 
 pub passed : (s : List ℕ) → Accepted s → Passed s
@@ -33,7 +33,7 @@ passed s a = go (judged s)
   where
     go : Judged (citationRows s) s (judgeOf s) → Passed s
     go (Judged.refused number told some tells e rows) = absurd (omega (arith, first-unique (citationRows s) number 0 rows a))
-    go (Judged.accepted z nothing rows kept) = record { no-refusal = z; nothing-told = nothing; kept = kept }
+    go (Judged.accepted z nothing rows kept) = record { no-refusal = z; kept = kept }
 
 -- The day fits 32 bits, so that the answer tells day and refusal apart.
 pub day-fits : (s : List ℕ) → Accepted s → (judgeOf s) .day .0 < 2 ^ 32
@@ -54,7 +54,9 @@ module _ (s before : List ℕ) (a : Accepted s) (room : 10 ≤ length before) wh
   no-refusal = refusal-none s (length before) (judgeOf s) refl (passed s a .no-refusal) room
 
   pub answer-is : answerOf s (length before) ≡ (judgeOf s) .day .0
-  answer-is = sym (answer-accepted s (judgeOf s) refl (length before) no-refusal (passed s a .nothing-told))
+  answer-is =
+      let none = passed s a .no-refusal in
+      sym (answer-accepted s (judgeOf s) refl (length before) no-refusal (nothing-told s refl (λ e. omega (arith, none))))
 
   whole-output : recordOf (systemOf s) (κ .year) (κ .month) (κ .leap) (κ .day) ++ drop 10 before ≡ storedInto s before
   whole-output = sym (ap (λ t. t ++ drop 10 before) (κ .stored)) ∙ output-accepted s (judgeOf s) refl before no-refusal

@@ -10,10 +10,9 @@ use Rattle.calendar.specs.Month.{monthHead, numberOf}
 use Rattle.calendar.specs.ClosedForms.{dayOfQi, monthOfQi, firstMonth}
 use Rattle.calendar.specs.LeapMonth.{leapNumber, noLeapUpTo, LeapBetween}
 use Rattle.calendar.proofs.Rising.{by-order}
-use Rattle.calendar.proofs.Reckoned.{month-from, month-before}
+use Rattle.calendar.proofs.Reckoned.{reckoned, month-from, month-before}
 use Rattle.calendar.proofs.EveryCalendar.{first-rises}
 use Rattle.calendar.proofs.LeapMonths.{number-before-leap, number-past-year}
-use Rattle.calendar.proofs.Reckoned.{reckoned}
 use Rattle.reckoning.specs.declared.month_spans.MonthSpan.{MonthSpan}
 use Rattle.reckoning.specs.MonthSpans.{monthSpan}
 use Rattle.reckoning.specs.WordBounds.{FirstMonthFits, YearInRegister}

@@ -147,6 +147,7 @@ monthIn c n number leap told =
     (noMonthTelling LEAP told)
     (monthAt c (monthCited c n number leap)))
 
+-- What LEAP tells is the number of the year's leap month.
 abbrev pub monthTelling : ℕ → ℕ → Constants → ℕ → Month
 monthTelling number leap c n = monthIn c n number leap (leapNumber c n)
 
