@@ -1,12 +1,16 @@
 -- Whole division: what a step of the dividend does to the quotient, and how a scaling is inverted.
 use Prim.Native.Nat.{ℕ, _+_, _*_, _-_, _/_, _≤_, _<_}
-use mathlib.Core.Path.{_≡_, ap₂, _∙_}
-use native.Mathlib.Nat.{le-div-iff-mul-le, div-lt-iff-lt-mul, div-mul-le-self, lt-div-mul-add, mul-pos, mul-div-mul-left, div-le-of-le-mul, mul-le-mul-left}
+use mathlib.Core.Path.{_≡_, sym, ap, ap₂, _∙_}
+use native.Mathlib.Nat.{le-div-iff-mul-le, div-lt-iff-lt-mul, div-mul-le-self, lt-div-mul-add, mul-pos, mul-div-cancel-left, mul-div-mul-left, div-le-of-le-mul, mul-le-mul-left}
 use native.Mathlib.Omega.{arith}
 
 -- A factor that dividend and divisor share changes no quotient.
 pub shared-factor : (m x y : ℕ) {n d : ℕ} → 0 < m → n ≡ m * x → d ≡ m * y → n / d ≡ x / y
 shared-factor m x y some p q = ap₂ (λ a b. a / b) p q ∙ mul-div-mul-left x y some
+
+-- Products with the same factor are equal only if the other factors are.
+pub cancel-factor : (m x y : ℕ) → 0 < m → m * x ≡ m * y → x ≡ y
+cancel-factor m x y some e = sym (mul-div-cancel-left x some) ∙ ap (λ a. a / m) e ∙ mul-div-cancel-left y some
 
 -- The scaling x ↦ x a / b.
 module _ (a b : ℕ) (b-some : 0 < b) where

@@ -1,6 +1,10 @@
 -- The laws of the reckoning, each proved once. `Laws` is the summary.
 -- Whole division: scalings, and how they are inverted.
 pub mod Division
+-- Equal steps of a year: they close, they fall on finer ones, and on which day.
+pub mod Steps
+-- The qi, as equal steps.
+pub mod QiLaws
 -- Tests taken apart.
 pub mod Cases
 -- Functions that rise at each step.
@@ -19,8 +23,8 @@ pub mod Numbers
 pub mod Laws
 -- The leap month of a year, found.
 pub mod LeapMonths
--- Equal steps of a year, and moments told as days, parts and small units.
-pub mod Steps
+-- The pentads, as equal steps; which of them is in force on a day.
+pub mod PentadLaws
 -- The names of days.
 pub mod NameLaws
 -- The list, checked for each system.

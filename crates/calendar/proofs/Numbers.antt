@@ -4,14 +4,14 @@ use mathlib.Core.Path.{_≡_, _∙_, subst, sym, ap}
 use mathlib.Core.Logic.{inl, inr, ⊎-elim}
 use native.Mathlib.Omega.{arith}
 use Rattle.calendar.specs.declared.data.Constants.{Constants}
-use Rattle.calendar.specs.Qi.{dayOf}
+use Rattle.calendar.specs.Steps.{dayOf}
 use Rattle.calendar.specs.Month.{InMonth, middleQi, Holds, HoldsSome, Lacks, numberOf, Bears, ordinary, leap, Marked}
 use Rattle.calendar.specs.Consistent.{Consistent}
 use Rattle.calendar.specs.Calendar.{Calendar}
 use Rattle.calendar.specs.ClosedForms.{monthOfDay, monthOfQi, qiOfMonth, monthNumber, leapMark}
 use Rattle.calendar.proofs.Rising.{by-order}
 use Rattle.calendar.proofs.EveryCalendar.{Held, by-held, month-unique, qi-of-held, held, qi-of-lacking, behind-most}
-use Rattle.calendar.proofs.Steps.{qi-day}
+use Rattle.calendar.proofs.QiLaws.{qi-day}
 use Rattle.calendar.proofs.Reckoned.{reckoned}
 
 module _ (c : Constants) (ok : Consistent c) where
@@ -20,11 +20,11 @@ module _ (c : Constants) (ok : Consistent c) where
 
   pub month-of-held : (k n j : ℕ) → Holds c k n j → monthOfQi c (12 * n + j) ≡ k
   month-of-held k n j h =
-      sym (month-unique K k (dayOf c (middleQi c n j)) (h .0) (h .1) ∙ ap (monthOfDay c) (qi-day c ok n j))
+      sym (month-unique K k (dayOf c (c .units) (middleQi c n j)) (h .0) (h .1) ∙ ap (monthOfDay c) (qi-day c ok n j))
 
   pub holds-of-month : (k n j : ℕ) → monthOfQi c (12 * n + j) ≡ k → Holds c k n j
   holds-of-month k n j e =
-      let d = dayOf c (middleQi c n j) in
+      let d = dayOf c (c .units) (middleQi c n j) in
       subst (λ l. InMonth c l d) (ap (monthOfDay c) (qi-day c ok n j) ∙ e) (K .day-from d, K .day-before d)
 
   -- A month holds a middle qi just when the last one up to its end is in it.

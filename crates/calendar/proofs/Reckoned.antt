@@ -7,6 +7,7 @@ use Rattle.calendar.specs.Consistent.{Consistent}
 use Rattle.calendar.specs.Calendar.{Calendar}
 use Rattle.calendar.specs.ClosedForms.{monthOfDay, dayOfQi, monthOfQi, qiOfMonth}
 use Rattle.calendar.proofs.Division.{scaled-least, scaled-most, scaled-small, last-of-below, below-of-last, after-of-from, from-of-after}
+use Rattle.calendar.proofs.Steps.{step-is-before, step-after-it}
 
 module _ (c : Constants) (ok : Consistent c) where
   pub month-some : 0 < c .month
@@ -79,7 +80,7 @@ module _ (c : Constants) (ok : Consistent c) where
       let next : 0 < monthHead c (k + 1) = omega (arith, head-least 1 29 k (omega (arith, ok))) in
       let g = qiOfMonth c k in
       let inside : dayOfQi c g < monthHead c (k + 1) =
-      below-of-last (c .year) (12 * c .solar) twelfths-some year-some g (monthHead c (k + 1)) next (omega arith)
+      step-is-before c 12 (omega arith) (ok .solar-some) year-some (monthHead c (k + 1)) next g (omega arith)
       in
       omega (arith, month-before (k + 1) (dayOfQi c g) inside)
 
@@ -87,7 +88,7 @@ module _ (c : Constants) (ok : Consistent c) where
   qi-before k =
       let g = qiOfMonth c k + 1 in
       let past : monthHead c (k + 1) ≤ dayOfQi c g =
-      from-of-after (c .year) (12 * c .solar) twelfths-some year-some g (monthHead c (k + 1)) (omega arith)
+      step-after-it c 12 (omega arith) (ok .solar-some) year-some (monthHead c (k + 1))
       in
       omega (arith, month-from (k + 1) (dayOfQi c g) past)
 

@@ -3,7 +3,7 @@ use Prim.Native.Nat.{ℕ, _+_}
 use mathlib.Core.Path.{_≡_, subst, ap, _∙_}
 use native.Mathlib.Omega.{arith}
 use Rattle.calendar.specs.declared.data.Constants.{Constants}
-use Rattle.calendar.specs.Qi.{solsticeDay}
+use Rattle.calendar.specs.Steps.{solsticeDay}
 use Rattle.calendar.specs.Month.{InMonth}
 use Rattle.calendar.specs.Year.{Begins, Span, InYear}
 use Rattle.calendar.specs.Consistent.{Consistent}
@@ -11,14 +11,14 @@ use Rattle.calendar.specs.Calendar.{Calendar}
 use Rattle.calendar.specs.ClosedForms.{monthOfDay, firstMonth}
 use Rattle.calendar.proofs.EveryCalendar.{Within, month-unique}
 use Rattle.calendar.proofs.Reckoned.{reckoned}
-use Rattle.calendar.proofs.Steps.{solstice-day}
+use Rattle.calendar.proofs.Steps.{first-step-day}
 
 module _ (c : Constants) (ok : Consistent c) where
   abbrev K : Calendar
   K = reckoned c ok
 
   month-of-solstice : (n : ℕ) → monthOfDay c (solsticeDay c n) ≡ firstMonth c n
-  month-of-solstice n = ap (monthOfDay c) (solstice-day c n)
+  month-of-solstice n = ap (monthOfDay c) (first-step-day c 12 n (omega arith))
 
   pub begins : (n : ℕ) → Begins c n (firstMonth c n)
   begins n =

@@ -1,84 +1,126 @@
--- Equal steps of a year, and moments told as days, parts and small units.
-use Prim.Native.Nat.{ℕ, _+_, _*_, _/_, _%_, _<_}
+-- Equal steps of a year, over any number of them and any units of a part.
+use Prim.Native.Nat.{ℕ, _+_, _*_, _/_, _%_, _≤_, _<_}
 use mathlib.Core.Path.{_≡_, refl, ap, sym, _∙_}
-use native.Mathlib.Nat.{div-add-mod', mod-lt, mul-div-cancel, div-div-eq-div-mul}
+use native.Mathlib.Nat.{div-add-mod', mod-lt, mul-pos, mul-le-mul-left, mul-le-mul-right, le-of-mul-le-mul-left, le-of-mul-le-mul-right, mul-div-cancel, div-div-eq-div-mul}
 use native.Mathlib.Omega.{arith}
 use Rattle.calendar.specs.declared.data.Constants.{Constants}
-use Rattle.calendar.specs.Systems.{guantian, jiyuan}
-use Rattle.calendar.specs.Qi.{solstice, solsticeDay, solsticeRemainder, step, moment, qi, dayOf, partsOf, unitsOf}
-use Rattle.calendar.specs.Month.{middleQi}
-use Rattle.calendar.specs.Consistent.{Consistent}
-use Rattle.calendar.specs.ClosedForms.{dayOfQi}
-use Rattle.calendar.proofs.Division.{shared-factor}
+use Rattle.calendar.specs.Steps.{solstice, solsticeDay, solsticeRemainder, step, DividesYear, moment, dayOf, partsOf, unitsOf}
+use Rattle.calendar.specs.ClosedForms.{dayOfStep, stepBefore}
+use Rattle.calendar.proofs.Division.{shared-factor, cancel-factor, last-of-below, below-of-last, from-of-after}
 
--- s steps make a year: s divides its small units.
-module _ (c : Constants) (s : ℕ) (closes : s * step c s ≡ c .year * c .units) where
+module _ (c : Constants) (s u : ℕ) (whole : DividesYear c s u) where
+  -- s steps make a year
+  pub steps-make-a-year : s * step c s u ≡ c .year * u
+  steps-make-a-year = omega (arith, div-add-mod' (c .year * u) s)
+
   -- no step loses anything: s times moment i is s n + i years
-  pub exact : (n i : ℕ) → s * moment c s n i ≡ (s * n + i) * (c .year * c .units)
-  exact n i = spread (step c s) closes
+  pub exact : (n i : ℕ) → s * moment c s u n i ≡ (s * n + i) * (c .year * u)
+  exact n i = spread (step c s u) steps-make-a-year
     where
-      spread : (t : ℕ) → s * t ≡ c .year * c .units → s * (n * c .year * c .units + i * t) ≡ (s * n + i) * (c .year * c .units)
+      spread : (t : ℕ) → s * t ≡ c .year * u → s * (n * c .year * u + i * t) ≡ (s * n + i) * (c .year * u)
       spread t e = omega (arith, ap (λ x. i * x) e)
 
-  -- s steps after a solstice it is the next solstice, to the last small unit
-  pub steps-close : (n : ℕ) → moment c s n s ≡ solstice c (n + 1) * c .units
-  steps-close n = omega (arith, closes)
+  -- s steps after a solstice it is the next solstice, to the last unit
+  pub steps-close : (n : ℕ) → moment c s u n s ≡ moment c s u (n + 1) 0
+  steps-close n = omega (arith, steps-make-a-year)
 
-  -- the day of moment i: with s steps to a year it falls s n + i steps after the epoch
-  pub step-day : 0 < s → 0 < c .units → (n i : ℕ) → dayOf c (moment c s n i) ≡ (s * n + i) * c .year / (s * c .solar)
-  step-day steps units n i =
-      let u = moment c s n i in
-      let whole = exact n i in
-      div-div-eq-div-mul u (c .units) (c .solar)
-      ∙ sym (shared-factor s u (c .units * c .solar) {n = s * u} steps refl refl)
-      ∙ shared-factor (c .units) ((s * n + i) * c .year) (s * c .solar) units (omega arith) (omega arith)
+  module _ (s-some : 0 < s) (u-some : 0 < u) where
+    -- the day of moment i: it falls s n + i steps after the epoch
+    pub step-day : (n i : ℕ) → dayOf c u (moment c s u n i) ≡ dayOfStep c s (s * n + i)
+    step-day n i =
+        let m = moment c s u n i in
+        let all = exact n i in
+        div-div-eq-div-mul m u (c .solar)
+        ∙ sym (shared-factor s m (u * c .solar) {n = s * m} s-some refl refl)
+        ∙ shared-factor u ((s * n + i) * c .year) (s * c .solar) u-some (omega arith) (omega arith)
 
--- Middle qi, counted on from the epoch, twelve to a year: their days by the closed form.
-pub qi-day : (c : Constants) → Consistent c → (n j : ℕ) → dayOf c (middleQi c n j) ≡ dayOfQi c (12 * n + j)
-qi-day c ok n j =
-    step-day c 24 (ok .steps-close) (omega arith) (ok .units-some) n (2 * j)
-    ∙ shared-factor 2 ((12 * n + j) * c .year) (12 * c .solar) (omega arith) (omega arith) (omega arith)
+    -- moments are in the order of their counts
+    module _ (n i m j : ℕ) where
+      pub moments-rise : s * n + i ≤ s * m + j → moment c s u n i ≤ moment c s u m j
+      moments-rise h =
+          le-of-mul-le-mul-left {k = s} (omega (arith, exact n i, exact m j, mul-le-mul-right (c .year * u) h)) s-some
 
--- The first of a year falls on the solstice's day.
-pub solstice-day : (c : Constants) (n : ℕ) → solsticeDay c n ≡ dayOfQi c (12 * n)
-solstice-day c n = sym (shared-factor 12 (solstice c n) (c .solar) (omega arith) (omega arith) refl)
+      pub counts-rise : 0 < c .year → moment c s u n i ≤ moment c s u m j → s * n + i ≤ s * m + j
+      counts-rise y-some h =
+          le-of-mul-le-mul-right {k = c .year * u} (omega (arith, exact n i, exact m j, mul-le-mul-left s h)) (mul-pos y-some u-some)
 
--- Qi 24 of a year is qi 0 of the next.
-pub qi-closes : (c : Constants) → Consistent c → (n : ℕ) → qi c n 24 ≡ qi c (n + 1) 0
-qi-closes c ok n = omega (arith, steps-close c 24 (ok .steps-close) n)
+-- Every k-th of k s steps is one of s steps, to the last unit: as many of v to a part as of u to a part.
+pub coarser-on-finer : (c : Constants) (k s u v : ℕ) → 0 < k * s → DividesYear c s u → DividesYear c (k * s) v → (n i : ℕ)
+    → u * moment c (k * s) v n (k * i) ≡ v * moment c s u n i
+coarser-on-finer c k s u v some coarse fine n i =
+    cancel-factor (k * s) (u * moment c (k * s) v n (k * i)) (v * moment c s u n i) some
+    (grown (moment c (k * s) v n (k * i)) (moment c s u n i) (exact c (k * s) v fine n (k * i)) (exact c s u coarse n i))
+  where
+    grown : (x y : ℕ) → k * s * x ≡ (k * s * n + k * i) * (c .year * v) → s * y ≡ (s * n + i) * (c .year * u)
+        → k * s * (u * x) ≡ k * s * (v * y)
+    grown x y p q = omega (arith, ap (λ a. u * a) p, ap (λ a. k * v * a) q)
 
--- A moment is what it is told as.
-pub record Told (c : Constants) (u : ℕ) : Type 0 where
-  pub whole : u ≡ (dayOf c u * c .solar + partsOf c u) * c .units + unitsOf c u
-  pub parts-below : partsOf c u < c .solar
-  pub units-below : unitsOf c u < c .units
+-- Moments that are one are told alike: the same day and parts, and units that are the same fraction of a part.
+pub record ToldAlike (c : Constants) (u v m w : ℕ) : Type 0 where
+  pub day : dayOf c v m ≡ dayOf c u w
+  pub parts : partsOf c v m ≡ partsOf c u w
+  pub units : u * unitsOf v m ≡ v * unitsOf u w
 
-pub told : (c : Constants) → Consistent c → (u : ℕ) → Told c u
-told c ok u =
+pub told-alike : (c : Constants) (u v m w : ℕ) → 0 < u → 0 < v → u * m ≡ v * w → ToldAlike c u v m w
+told-alike c u v m w u-some v-some e =
+    let whole : m / v ≡ w / u =
+    sym (shared-factor u m v {n = u * m} {d = u * v} u-some refl refl)
+    ∙ shared-factor v w u v-some e (omega arith)
+    in
     record {
-      whole = omega (arith, div-add-mod' u (c .units), ap (λ x. x * c .units) (div-add-mod' (u / c .units) (c .solar)));
-      parts-below = mod-lt (u / c .units) (ok .solar-some);
-      units-below = mod-lt u (ok .units-some);
+      day = ap (λ t. t / c .solar) whole;
+      parts = ap (λ t. t % c .solar) whole;
+      units = omega (
+        arith,
+        ap (λ t. u * t) (div-add-mod' m v),
+        ap (λ t. v * t) (div-add-mod' w u),
+        ap (λ t. u * (v * t)) whole,
+      );
     }
 
--- The corrected step of 002: 15 days, 2,628 parts and 12 small units; its double step agrees.
-pub guantian-step : step guantian 24 ≡ (15 * 12_030 + 2628) * 36 + 12
-guantian-step = refl
+-- A moment is what it is told as.
+pub record Told (c : Constants) (u m : ℕ) : Type 0 where
+  pub whole : m ≡ (dayOf c u m * c .solar + partsOf c u m) * u + unitsOf u m
+  pub parts-below : partsOf c u m < c .solar
+  pub units-below : unitsOf u m < u
 
-pub guantian-double-step : 2 * step guantian 24 ≡ (30 * 12_030 + 5256) * 36 + 24
-guantian-double-step = refl
+pub told : (c : Constants) (u m : ℕ) → 0 < c .solar → 0 < u → Told c u m
+told c u m solar-some u-some =
+    record {
+      whole = omega (arith, div-add-mod' m u, ap (λ x. x * u) (div-add-mod' (m / u) (c .solar)));
+      parts-below = mod-lt (m / u) solar-some;
+      units-below = mod-lt m u-some;
+    }
 
--- The step that 003 prints, 15 days, 1,592 parts and three quarters.
-pub jiyuan-step : step jiyuan 24 ≡ (15 * 7290 + 1592) * 4 + 3
-jiyuan-step = refl
-
--- Qi 0 is the winter solstice.
-pub qi-zero : (c : Constants) → Consistent c → (n : ℕ)
-    → (dayOf c (qi c n 0) ≡ solsticeDay c n) × (partsOf c (qi c n 0) ≡ solsticeRemainder c n) × (unitsOf c (qi c n 0) ≡ 0)
-qi-zero c ok n =
-    let here : qi c n 0 ≡ solstice c n * c .units = omega arith in
-    let whole : qi c n 0 / c .units ≡ solstice c n = ap (λ u. u / c .units) here ∙ mul-div-cancel (solstice c n) (ok .units-some) in (
+-- Step 0 of a year is its solstice: told with its day and remainder, and no units.
+pub step-zero : (c : Constants) (s u n : ℕ) → 0 < u
+    → (dayOf c u (moment c s u n 0) ≡ solsticeDay c n)
+    × (partsOf c u (moment c s u n 0) ≡ solsticeRemainder c n)
+    × (unitsOf u (moment c s u n 0) ≡ 0)
+step-zero c s u n some =
+    let m = moment c s u n 0 in
+    let here : m ≡ solstice c n * u = omega arith in
+    let whole : m / u ≡ solstice c n = ap (λ x. x / u) here ∙ mul-div-cancel (solstice c n) some in (
       ap (λ t. t / c .solar) whole,
       ap (λ t. t % c .solar) whole,
-      omega (arith, div-add-mod' (qi c n 0) (c .units), ap (λ t. t * c .units) whole),
+      omega (arith, div-add-mod' m u, ap (λ t. t * u) whole),
     )
+
+-- Its day by the closed form.
+pub first-step-day : (c : Constants) (s n : ℕ) → 0 < s → solsticeDay c n ≡ dayOfStep c s (s * n)
+first-step-day c s n some = sym (shared-factor s (solstice c n) (c .solar) some (omega arith) refl)
+
+-- The last step on a day before d: those up to it are on such a day, and no later one is.
+module _ (c : Constants) (s : ℕ) (s-some : 0 < s) (solar-some : 0 < c .solar) (year-some : 0 < c .year) (d : ℕ) where
+  divisor-some : 0 < s * c .solar
+  divisor-some = mul-pos s-some solar-some
+
+  pub step-is-last : (h : ℕ) → dayOfStep c s h < d → h ≤ stepBefore c s d
+  step-is-last h = last-of-below (c .year) (s * c .solar) divisor-some year-some h d
+
+  pub step-is-before : 0 < d → (h : ℕ) → h ≤ stepBefore c s d → dayOfStep c s h < d
+  step-is-before some h = below-of-last (c .year) (s * c .solar) divisor-some year-some h d some
+
+  pub step-after-it : d ≤ dayOfStep c s (stepBefore c s d + 1)
+  step-after-it =
+      from-of-after (c .year) (s * c .solar) divisor-some year-some (stepBefore c s d + 1) d (omega arith)

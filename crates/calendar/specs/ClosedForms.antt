@@ -1,5 +1,4 @@
--- The functions by which the code reckons, beside `monthHead`. Middle qi are counted on from the epoch: g is 12 n + j
--- for middle qi j of year n, so that nothing needs a case for the turn of the year. `/` is whole division throughout.
+-- The functions by which the code reckons, beside `monthHead`. `/` is whole division throughout.
 use Prim.Native.Nat.{ℕ, _+_, _*_, _-_, _/_, _%_}
 use mathlib.Core.Bool.{Bool}
 use lib.Dec.{ltb}
@@ -11,17 +10,30 @@ use Rattle.calendar.specs.Month.{monthHead, numberOf}
 abbrev pub monthOfDay : Constants → ℕ → ℕ
 monthOfDay c d = ((d + 1) * c .lunar - 1) / c .month
 
--- The day of middle qi g, which falls g twelfths of Y from the epoch.
+-- Equal steps, s to a year, are counted on from the epoch: h is s n + i for step i of year n, so that nothing needs a case
+-- for the turn of the year. The day of step h, which falls h times Y by s from the epoch.
+abbrev pub dayOfStep : Constants → ℕ → ℕ → ℕ
+dayOfStep c s h = h * c .year / (s * c .solar)
+
+-- The last step on a day before d. With solar parts, h Y / (s D) < d just when h Y ≤ d (s D) - 1.
+abbrev pub stepBefore : Constants → ℕ → ℕ → ℕ
+stepBefore c s d = (d * (s * c .solar) - 1) / c .year
+
+-- The pentad in force at the end of day d: the last on a day before the next.
+abbrev pub pentadOn : Constants → ℕ → ℕ
+pentadOn c d = stepBefore c 72 (d + 1)
+
+-- The day of middle qi g: they are twelve to a year.
 abbrev pub dayOfQi : Constants → ℕ → ℕ
-dayOfQi c g = g * c .year / (12 * c .solar)
+dayOfQi c g = dayOfStep c 12 g
 
 -- The month that holds middle qi g: the one that has its day.
 abbrev pub monthOfQi : Constants → ℕ → ℕ
 monthOfQi c g = monthOfDay c (dayOfQi c g)
 
--- The last middle qi on a day before d. With solar parts, g Y / (12 D) < d just when g Y ≤ d (12 D) - 1.
+-- The last middle qi on a day before d.
 abbrev pub qiBefore : Constants → ℕ → ℕ
-qiBefore c d = (d * (12 * c .solar) - 1) / c .year
+qiBefore c d = stepBefore c 12 d
 
 -- The last middle qi on a day of month k or earlier.
 abbrev pub qiOfMonth : Constants → ℕ → ℕ

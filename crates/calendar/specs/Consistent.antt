@@ -3,13 +3,14 @@
 use Prim.Native.Nat.{_+_, _*_, _%_, _≤_, _<_}
 use mathlib.Core.Path.{_≡_}
 use Rattle.calendar.specs.declared.data.Constants.{Constants}
-use Rattle.calendar.specs.Qi.{step}
+use Rattle.calendar.specs.Steps.{DividesYear}
 
 pub record Consistent (c : Constants) : Type 0 where
   -- what moments are divided by
   pub solar-some : 0 < c .solar
   pub lunar-some : 0 < c .lunar
   pub units-some : 0 < c .units
+  pub fraction-some : 0 < c .fraction
   -- months of 29 days at least, twelve of 354 and thirteen of 383
   pub months-least : 354 * c .lunar ≤ 12 * c .month
   -- months of 30 days at most, twelve of 355 and thirteen of 384
@@ -18,8 +19,9 @@ pub record Consistent (c : Constants) : Type 0 where
   pub year-least : 360 * c .solar ≤ c .year
   -- 383 days at most from a middle qi to the twelfth after it, as short as any thirteen months: no year has fourteen
   pub year-most : c .year ≤ 383 * c .solar
-  -- 24 divides the small units of a year: no qi is rounded
-  pub steps-close : 24 * step c 24 ≡ c .year * c .units
+  -- no qi is rounded, and no pentad
+  pub qi-exact : DividesYear c 24 (c .units)
+  pub pentads-exact : DividesYear c 72 (c .fraction)
   -- the name of count day 0 puts the names of register days on (r + 49) % 60
   pub names-agree : (c .anchor + c .name) % 60 ≡ 49
   -- years are counted from an epoch before common year 1: the years elapsed rise by one a year

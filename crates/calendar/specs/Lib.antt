@@ -1,12 +1,16 @@
--- The reckoning of paper 01, with the rules of paper 02. The first five files render them in the order of paper 01, to
+-- The reckoning of paper 01, with the rules of paper 02. The first seven files render them in the order of paper 01, to
 -- be checked against both by reading.
 -- The words of this trade are in docs/TERMS.md, and how to read this notation is in docs/READING.md.
 -- The constants of both systems, years elapsed, register days.
 pub mod Systems
 -- The sixty-day name of a day.
 pub mod SixtyDayName
--- The solstice, equal steps of a year, and the 24 qi.
+-- The solstice, equal steps of a year, and how a moment is told.
+pub mod Steps
+-- The 24 qi.
 pub mod Qi
+-- The 72 pentads, and which of them is in force on a day.
+pub mod Pentad
 -- Mean new moons, the days of a month, the middle qi that it holds, its number and its leap mark.
 pub mod Month
 -- The months and the days of a year, its head and its length; a day's ordinal.

@@ -3,7 +3,8 @@ use Prim.Native.Nat.{ℕ, _+_, _*_, _-_, _/_, _%_, _≤_, _<_}
 use mathlib.Core.Path.{_≡_}
 use mathlib.Core.Logic.{_⊎_}
 use Rattle.calendar.specs.declared.data.Constants.{Constants}
-use Rattle.calendar.specs.Qi.{qi, dayOf}
+use Rattle.calendar.specs.Steps.{dayOf}
+use Rattle.calendar.specs.Qi.{qi}
 
 -- Reckoning, mean new moon: k times M parts from the epoch.
 abbrev pub newMoon : Constants → ℕ → ℕ
@@ -31,7 +32,7 @@ middleQi c n j = qi c n (2 * j)
 
 -- Paper 02, Q-2, held middle qi: month k holds middle qi j of year n when the qi's day is one of the month's days.
 abbrev pub Holds : Constants → ℕ → ℕ → ℕ → Type 0
-Holds c k n j = InMonth c k (dayOf c (middleQi c n j))
+Holds c k n j = InMonth c k (dayOf c (c .units) (middleQi c n j))
 
 -- Month k holds a middle qi, of whichever year.
 pub record HoldsSome (c : Constants) (k : ℕ) : Type 0 where

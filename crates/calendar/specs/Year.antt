@@ -3,7 +3,7 @@ use Prim.Native.Nat.{ℕ, zero, suc, _+_, _-_, _≤_, _<_}
 use mathlib.Core.Path.{_≡_}
 use mathlib.Core.Logic.{_⊎_}
 use Rattle.calendar.specs.declared.data.Constants.{Constants}
-use Rattle.calendar.specs.Qi.{solsticeDay}
+use Rattle.calendar.specs.Steps.{solsticeDay}
 use Rattle.calendar.specs.Month.{monthHead, InMonth, monthLength, Bears, Marked}
 
 -- Paper 02, Q-2, a year's beginning: year n begins with month k when the solstice's day is one of the month's days.

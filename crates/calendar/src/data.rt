@@ -19,6 +19,8 @@ pub struct Constants {
     pub month: u64,
     // Small units in a part.
     pub units: u64,
+    // Units in a part, of those in which a pentad's fraction is told: 36 for 36ths. Paper 02, Q-4.
+    pub fraction: u64,
     // Years elapsed, N, at the common year `common`.
     pub elapsed: u64,
     pub common: u64,
