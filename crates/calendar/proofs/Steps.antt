@@ -1,12 +1,12 @@
 -- Equal steps of a year, over any number of them and any units of a part.
-use Prim.Native.Nat.{ℕ, _+_, _*_, _/_, _%_, _≤_, _<_}
+use Prim.Native.Nat.{ℕ, _+_, _*_, _-_, _/_, _%_, _≤_, _<_}
 use mathlib.Core.Path.{_≡_, refl, ap, sym, _∙_}
 use native.Mathlib.Nat.{div-add-mod', mod-lt, mul-pos, mul-le-mul-left, mul-le-mul-right, le-of-mul-le-mul-left, le-of-mul-le-mul-right, mul-div-cancel, div-div-eq-div-mul}
 use native.Mathlib.Omega.{arith}
 use Rattle.calendar.specs.declared.data.Constants.{Constants}
 use Rattle.calendar.specs.Steps.{solstice, solsticeDay, solsticeRemainder, step, DividesYear, moment, dayOf, partsOf, unitsOf}
 use Rattle.calendar.specs.ClosedForms.{dayOfStep, stepBefore}
-use Rattle.calendar.proofs.Division.{shared-factor, cancel-factor, last-of-below, below-of-last, from-of-after}
+use Rattle.calendar.proofs.Division.{shared-factor, cancel-factor, scaled-least, last-of-below, below-of-last, from-of-after}
 
 module _ (c : Constants) (s u : ℕ) (whole : DividesYear c s u) where
   -- s steps make a year
@@ -110,17 +110,32 @@ step-zero c s u n some =
 pub first-step-day : (c : Constants) (s n : ℕ) → 0 < s → solsticeDay c n ≡ dayOfStep c s (s * n)
 first-step-day c s n some = sym (shared-factor s (solstice c n) (c .solar) some (omega arith) refl)
 
--- The last step on a day before d: those up to it are on such a day, and no later one is.
-module _ (c : Constants) (s : ℕ) (s-some : 0 < s) (solar-some : 0 < c .solar) (year-some : 0 < c .year) (d : ℕ) where
+-- The days of steps, counted on from the epoch.
+module _ (c : Constants) (s : ℕ) (s-some : 0 < s) (solar-some : 0 < c .solar) where
   divisor-some : 0 < s * c .solar
   divisor-some = mul-pos s-some solar-some
 
-  pub step-is-last : (h : ℕ) → dayOfStep c s h < d → h ≤ stepBefore c s d
-  step-is-last h = last-of-below (c .year) (s * c .solar) divisor-some year-some h d
+  days-rise : (h i : ℕ) → dayOfStep c s h ≤ dayOfStep c s (h + i)
+  days-rise h i = omega (arith, scaled-least (c .year) (s * c .solar) divisor-some i 0 h (omega arith))
 
-  pub step-is-before : 0 < d → (h : ℕ) → h ≤ stepBefore c s d → dayOfStep c s h < d
-  step-is-before some h = below-of-last (c .year) (s * c .solar) divisor-some year-some h d some
+  -- those of a year lie from its solstice to the next
+  pub steps-in-year : (u : ℕ) → 0 < u → DividesYear c s u → (n i : ℕ) → i ≤ s
+      → (solsticeDay c n ≤ dayOf c u (moment c s u n i)) × (dayOf c u (moment c s u n i) ≤ solsticeDay c (n + 1))
+  steps-in-year u u-some whole n i h =
+      let e : s * n + i + (s - i) ≡ s * (n + 1) = omega arith in
+      let here = step-day c s u whole s-some u-some n i in (
+        omega (arith, first-step-day c s n s-some, days-rise (s * n) i),
+        omega (arith, first-step-day c s (n + 1) s-some, days-rise (s * n + i) (s - i), ap (dayOfStep c s) e),
+      )
 
-  pub step-after-it : d ≤ dayOfStep c s (stepBefore c s d + 1)
-  step-after-it =
-      from-of-after (c .year) (s * c .solar) divisor-some year-some (stepBefore c s d + 1) d (omega arith)
+  -- The last on a day before d: those up to it are on such a day, and no later one is.
+  module _ (year-some : 0 < c .year) (d : ℕ) where
+    pub step-is-last : (h : ℕ) → dayOfStep c s h < d → h ≤ stepBefore c s d
+    step-is-last h = last-of-below (c .year) (s * c .solar) divisor-some year-some h d
+
+    pub step-is-before : 0 < d → (h : ℕ) → h ≤ stepBefore c s d → dayOfStep c s h < d
+    step-is-before some h = below-of-last (c .year) (s * c .solar) divisor-some year-some h d some
+
+    pub step-after-it : d ≤ dayOfStep c s (stepBefore c s d + 1)
+    step-after-it =
+        from-of-after (c .year) (s * c .solar) divisor-some year-some (stepBefore c s d + 1) d (omega arith)

@@ -17,7 +17,7 @@ use Rattle.calendar.proofs.Laws.{month-days, year-months, months-cover, months-
 use Rattle.reckoning.specs.Scope.{InScope}
 use Rattle.reckoning.specs.WordedRefusals.{FirstOf, yearRows, qiRows}
 use Rattle.reckoning.specs.ComputedRefusals.{yearRefusal, qiRefusal}
-use Rattle.reckoning.specs.Requests.{solsticeOf, noSolstice, qiOf, noQi, yearOf, noYear, sheetOf, noSheet, daysOf, monthOf, dateOf}
+use Rattle.reckoning.specs.Requests.{solsticeOf, noSolstice, qiOf, noMoment, yearOf, noYear, sheetOf, noSheet, daysOf, monthOf, dateOf}
 use Rattle.reckoning.specs.Outcomes.{DaysOutcome, MonthOutcome, DateOutcome}
 use Rattle.reckoning.proofs.RefusedRequests as Blanks
 use Rattle.reckoning.proofs.RequestsEnd as Outcomes
@@ -86,7 +86,7 @@ module _ (system year : ℕ) (some : yearRefusal system year ≡ 0 → ⊥) wher
   pub sheet-blank : sheetOf system year ≡ noSheet (yearRefusal system year)
   sheet-blank = Blanks.sheet-blank system year some
 
-pub qi-blank : (system year q : ℕ) → (qiRefusal system year q ≡ 0 → ⊥) → qiOf system year q ≡ noQi (qiRefusal system year q)
+pub qi-blank : (system year q : ℕ) → (qiRefusal system year q ≡ 0 → ⊥) → qiOf system year q ≡ noMoment (qiRefusal system year q)
 qi-blank = Blanks.qi-blank
 
 -- How the other three requests end: refused by the table, or found.

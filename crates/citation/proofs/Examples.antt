@@ -5,12 +5,13 @@ use mathlib.Core.List.{List, [], _∷_, map}
 use lib.ListN.{replicate}
 use Rattle.calendar.specs.Systems.{constantsOf, yearsElapsed}
 use Rattle.calendar.specs.SixtyDayName.{nameOf}
-use Rattle.calendar.specs.Qi.{solstice, qi, dayOf}
+use Rattle.calendar.specs.Steps.{solstice, dayOf}
+use Rattle.calendar.specs.Qi.{qi}
 use Rattle.calendar.specs.Month.{newMoon, monthHead}
 use Rattle.calendar.specs.ClosedForms.{firstMonth}
 use Rattle.calendar.specs.LeapMonth.{lastLeap}
 use Rattle.reckoning.specs.Filled.{filled}
-use Rattle.reckoning.specs.ComputedRefusals.{yearRefusal, qiRefusal}
+use Rattle.reckoning.specs.ComputedRefusals.{yearRefusal, stepRefusal}
 use Rattle.reckoning.specs.Requests.{solsticeOf, qiOf, yearOf, monthsFrom, daysOf, monthOf, monthIn, dateOf, dateIn}
 use Rattle.citation.specs.Store.{judgeRegisterDay, judgeOrdinal, judgeDay, judgeName, judgeKind, lengthRight, judgeOf, refusalOf, toldOf, answerOf, storedInto}
 use Rattle.reckoning.specs.YearValue.{headIn, numberIn, leapIn}
@@ -51,7 +52,7 @@ answer (BeforeMoon system year i place) =
     let n = yearsElapsed c year in
     let k = firstMonth c n + place - 1 in
     let moment = qi c n i in
-    (monthHead c k - dayOf c moment) ∷ (newMoon c k - moment / c .units) ∷ []
+    (monthHead c k - dayOf c (c .units) moment) ∷ (newMoon c k - moment / c .units) ∷ []
 answer (Head system year) = (headIn (yearOf system year) 0) ∷ []
 answer (Months system year) = ((yearOf system year) .count) ∷ []
 answer (Days system year) = let v = yearOf system year in (headIn v (v .count) - headIn v 0) ∷ []
@@ -153,6 +154,6 @@ table =
     ∷ []
 
 pub examples : map asked table ≡ map expected table
-unfolding answer asked expected table first-of-case-9 then byOrdinal byDate byName solsticeOf qiOf yearOf yearRefusal qiRefusal monthsFrom filled
+unfolding answer asked expected table first-of-case-9 then byOrdinal byDate byName solsticeOf qiOf yearOf yearRefusal stepRefusal monthsFrom filled
     lastLeap refusalOf answerOf storedInto judgeOf lengthRight judgeKind judgeDay judgeName judgeOrdinal judgeRegisterDay daysOf monthOf monthIn dateOf dateIn
 examples = refl

@@ -1,17 +1,18 @@
 -- How a request's answer follows from what it stands on: one law for every request.
 use Prim.Native.Nat.{ℕ, _<_}
 use mathlib.Core.Path.{_≡_, refl, _∙_, subst, sym, ap}
-use mathlib.Core.Bool.{cond}
+use mathlib.Core.Bool.{Bool, true, false, cond}
 use native.Mathlib.Omega.{arith}
 use lib.Dec.{eqb}
 use borrow.Author.Tests.{eq-eqb, ne-eqb}
 use Rattle.calendar.specs.declared.data.Constants.{Constants}
 use Rattle.reckoning.specs.declared.asked.Asked.{Asked}
 use Rattle.calendar.specs.Systems.{guantian, jiyuan, constantsOf, yearsElapsed}
-use Rattle.reckoning.specs.ComputedRefusals.{yearRefusal}
+use Rattle.reckoning.specs.ComputedRefusals.{outside, yearRefusal}
+use Rattle.reckoning.specs.RefusalNumbers.{SYSTEM}
 use Rattle.reckoning.proofs.RefusalCases.{in-scope, accepted}
 use Rattle.reckoning.specs.Asked.{askedOf}
-use Rattle.reckoning.specs.Requests.{answerUnless}
+use Rattle.reckoning.specs.Requests.{answerUnless, answerOfSystem}
 use Rattle.reckoning.specs.WordBounds.{YearInRegister}
 use Rattle.reckoning.specs.Scope.{InScope}
 use Rattle.reckoning.proofs.ScopeInRegister.{year-in-register}
@@ -62,6 +63,18 @@ picks-jiyuan system h = simp (ne-eqb system 1 h)
 pub picked : {A : Type 0} (f : Constants → A) (system : ℕ) {c : Constants} {r : A} → constantsOf system ≡ c → r ≡ f c
     → r ≡ f (constantsOf system)
 picked f system e is = is ∙ sym (ap f e)
+
+-- A request by system and register day, refused or answered, by the constants that the system's number picks.
+module _ {A : Type 0} (answer : Constants → A) (blank : ℕ → A) (system : ℕ) {b : Bool} (test : b ≡ outside 1 2 system) {v : A} where
+  pub no-such-system : b ≡ true → v ≡ blank SYSTEM → v ≡ answerOfSystem system answer blank
+  no-such-system out e = e ∙ simp (sym test ∙ out)
+
+  module _ (inside : b ≡ false) {c : Constants} (is : v ≡ answer c) where
+    pub by-guantian : system ≡ 1 → c ≡ guantian → v ≡ answerOfSystem system answer blank
+    by-guantian e f = picked answer system (picks-guantian system e ∙ sym f) is ∙ simp (sym test ∙ inside)
+
+    pub by-jiyuan : (system ≡ 1 → ⊥) → c ≡ jiyuan → v ≡ answerOfSystem system answer blank
+    by-jiyuan e f = picked answer system (picks-jiyuan system e ∙ sym f) is ∙ simp (sym test ∙ inside)
 
 pub in-register-here : (system year : ℕ) (c : Constants) → constantsOf system ≡ c → yearRefusal system year ≡ 0
     → YearInRegister c (yearsElapsed c year)

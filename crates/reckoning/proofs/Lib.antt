@@ -5,6 +5,8 @@ pub mod RefusalCases
 pub mod ScopeInRegister
 -- How an answer follows from what was asked.
 pub mod AnswerUnless
+-- Equal steps of a year, as the code has them.
+pub mod StepLaws
 -- Direct requests are refused by their table.
 pub mod RefusedRequests
 -- Months with their bounds.
@@ -15,8 +17,12 @@ pub mod RegisterLaws
 pub mod MonthRequest
 -- How the leap month of a year is found.
 pub mod LeapMonthSearch
+-- The common year of a day, and whether the day is in scope.
+pub mod YearOfDay
 -- The date of a register day.
 pub mod DateRequest
+-- The pentad in force on a register day.
+pub mod PentadRequest
 -- The value that `year` returns holds the months of the reckoning.
 pub mod MonthsRight
 -- Filling a list, and reading it.
@@ -25,5 +31,7 @@ pub mod FilledLaws
 pub mod AnswersRight
 -- How the other requests end.
 pub mod RequestsEnd
+-- How the request for the pentad in force ends.
+pub mod PentadEnds
 -- Answers leave room for the days that follow a head.
 pub mod AnswersFit

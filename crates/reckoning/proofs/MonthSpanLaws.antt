@@ -1,7 +1,7 @@
 -- Months with their bounds: the code's numbers fit, and are those of the closed forms.
 use Prim.Native.Nat.{ℕ, _+_, _*_, _-_, _/_, _%_, _^_, _≤_, _<_}
 use mathlib.Core.Path.{_≡_, sym, ap, ap₂, _∙_}
-use native.Mathlib.Nat.{mod-lt, mul-le-mul-right, mul-pos, lt-of-le-of-lt}
+use native.Mathlib.Nat.{mod-lt, mul-le-mul-right, lt-of-le-of-lt}
 use native.Mathlib.Omega.{arith}
 use mir.Syntax.{w8, w64}
 use mir.Val.{Fits}
@@ -14,10 +14,11 @@ use Rattle.calendar.specs.ClosedForms.{monthOfDay, qiBefore, qiOfMonth}
 use Rattle.calendar.proofs.Reckoned.{reckoned, month-some, head-small}
 use Rattle.calendar.proofs.EveryCalendar.{month-of-day-most}
 use Rattle.calendar.proofs.Remainders.{partsInto, days-before, days-after, twelfthsSince, twelfthsIn, leap-by-twelfths, ordinary-by-twelfths}
+use Rattle.reckoning.specs.declared.closed_forms.LastStep.{LastStep}
 use Rattle.reckoning.specs.declared.month_spans.MonthSpan.{MonthSpan}
 use Rattle.reckoning.specs.Requests.{asRegisterDay, monthAt}
-use Rattle.reckoning.specs.MonthSpans.{monthSpan, lastQi}
-use Rattle.reckoning.specs.WordBounds.{ConstantsFit, SpanFits}
+use Rattle.reckoning.specs.MonthSpans.{lastStep, monthSpan, lastQi}
+use Rattle.reckoning.specs.WordBounds.{ConstantsFit, StepsFit, SpanFits}
 
 -- A month with its bounds fits where its count does.
 pub span-fits : {c : Constants} {m : MonthSpan} (k : ℕ) → ConstantsFit c → m ≡ monthSpan c k → k + 2 < 2 ^ 32 → SpanFits c m
@@ -87,36 +88,40 @@ module _ {c : Constants} {m : MonthSpan} (s : SpanFits c m) where
   twelfths-fit h =
       record { fits = lt-of-le-of-lt (mul-le-mul-right (12 * c .solar) h) (omega (arith, s .constants-fit .solar-days)) }
 
-  pub end-fits : Fits w64 (m .next * (12 * c .solar))
-  end-fits = twelfths-fit next-small
-
-  pub end-some : 1 ≤ m .next * (12 * c .solar)
-  end-some =
-      mul-pos (omega (arith, next-is, K .month-least k)) (omega (arith, s .constants-fit .consistent .solar-some))
+  pub next-found : StepsFit c 12 (m .next)
+  next-found =
+      record {
+        constants-fit = s .constants-fit;
+        steps-some = omega arith;
+        steps-most = omega arith;
+        day-some = omega (arith, next-is, K .month-least k);
+        day-small = next-small;
+      }
 
   pub length-fits : Fits w64 ((m .next - m .head) * (12 * c .solar))
   length-fits = twelfths-fit (omega (arith, next-small))
 
-  since-is : (m .next * (12 * c .solar) - 1) % c .year ≡ twelfthsSince c k
-  since-is = ap (λ x. (x * (12 * c .solar) - 1) % c .year) next-is
-
   in-is : (m .next - m .head) * (12 * c .solar) ≡ twelfthsIn c k
   in-is = ap₂ (λ x y. (x - y) * (12 * c .solar)) next-is head-is
 
-  qi-is : qiBefore c (m .next) ≡ qiOfMonth c k
-  qi-is = ap (qiBefore c) next-is
+  module _ {last : LastStep} (found : last ≡ lastStep c 12 (m .next)) where
+    step-is : last .step ≡ qiOfMonth c k
+    step-is = ap (λ x. x .step) found ∙ ap (qiBefore c) next-is
 
-  pub last-ordinary : (m .next * (12 * c .solar) - 1) % c .year < (m .next - m .head) * (12 * c .solar)
-      → record { qi = qiBefore c (m .next); leap = 0 } ≡ lastQi c k
-  last-ordinary h =
-      let leap = sym (ordinary-by-twelfths c (s .constants-fit .consistent) k (omega (arith, since-is, in-is))) in
-      λ j. record { qi = qi-is j; leap = leap j }
+    left-is : last .left ≡ twelfthsSince c k
+    left-is = ap (λ x. x .left) found ∙ ap (λ x. (x * (12 * c .solar) - 1) % c .year) next-is
 
-  pub last-leap : (m .next - m .head) * (12 * c .solar) ≤ (m .next * (12 * c .solar) - 1) % c .year
-      → record { qi = qiBefore c (m .next); leap = 1 } ≡ lastQi c k
-  last-leap h =
-      let leap = sym (leap-by-twelfths c (s .constants-fit .consistent) k (omega (arith, since-is, in-is))) in
-      λ j. record { qi = qi-is j; leap = leap j }
+    pub last-ordinary : last .left < (m .next - m .head) * (12 * c .solar)
+        → record { qi = last .step; leap = 0 } ≡ lastQi c k
+    last-ordinary h =
+        let leap = sym (ordinary-by-twelfths c (s .constants-fit .consistent) k (omega (arith, left-is, in-is))) in
+        λ j. record { qi = step-is j; leap = leap j }
+
+    pub last-leap : (m .next - m .head) * (12 * c .solar) ≤ last .left
+        → record { qi = last .step; leap = 1 } ≡ lastQi c k
+    last-leap h =
+        let leap = sym (leap-by-twelfths c (s .constants-fit .consistent) k (omega (arith, left-is, in-is))) in
+        λ j. record { qi = step-is j; leap = leap j }
 
   -- Month m as it is answered.
   pub answered-month : {r : RegisterDay} → r ≡ asRegisterDay (registerDay c (m .head))

@@ -7,8 +7,8 @@ use native.Mathlib.Omega.{arith}
 use borrow.Author.Tests.{ltb-false, lt-ltb, le-ltb}
 use Rattle.calendar.specs.Inside.{Inside}
 use Rattle.reckoning.specs.Scope.{SystemInScope, YearInScope, InScope}
-use Rattle.reckoning.specs.ComputedRefusals.{outside, yearRefusal, qiRefusal}
-use Rattle.reckoning.specs.RefusalNumbers.{SYSTEM, YEAR, QI}
+use Rattle.reckoning.specs.ComputedRefusals.{outside, yearRefusal, stepRefusal}
+use Rattle.reckoning.specs.RefusalNumbers.{SYSTEM, YEAR, STEP}
 
 -- Where no rule gave a number, the first did not apply, nor did any other.
 pub passed : (number : ℕ) (b : Bool) (rest : ℕ) → 0 < number → cond b number rest ≡ 0 → (b ≡ false) × (rest ≡ 0)
@@ -83,39 +83,42 @@ module _ (system year : ℕ) where
   unfolding yearRefusal
   not-refused e f = simp (e, f)
 
--- The rule for a qi number is looked at only where system and year are in scope.
-pub qi-unseen : (system year i : ℕ) → (yearRefusal system year ≡ 0 → ⊥) → yearRefusal system year ≡ qiRefusal system year i
-unfolding yearRefusal qiRefusal
-qi-unseen system year i h = either (outside 1 2 system) (outside 1 3000 year) h
-  where
-    either : (a b : Bool) → (_≡_ {A = ℕ} (cond a SYSTEM (cond b YEAR 0)) 0 → ⊥)
-        → _≡_ {A = ℕ} (cond a SYSTEM (cond b YEAR 0)) (cond a SYSTEM (cond b YEAR (cond (ltb 23 i) QI 0)))
-    either true b h = refl
-    either false true h = refl
-    either false false h = absurd (h refl)
+-- The rule for a step's number is looked at only where system and year are in scope.
+module _ (most system year i : ℕ) where
+  pub step-unseen : (yearRefusal system year ≡ 0 → ⊥) → yearRefusal system year ≡ stepRefusal most system year i
+  unfolding yearRefusal stepRefusal
+  step-unseen h = either (outside 1 2 system) (outside 1 3000 year) h
+    where
+      either : (a b : Bool) → (_≡_ {A = ℕ} (cond a SYSTEM (cond b YEAR 0)) 0 → ⊥)
+          → _≡_ {A = ℕ} (cond a SYSTEM (cond b YEAR 0)) (cond a SYSTEM (cond b YEAR (cond (ltb most i) STEP 0)))
+      either true b h = refl
+      either false true h = refl
+      either false false h = absurd (h refl)
 
-pub qi-seen : (system year i : ℕ) → yearRefusal system year ≡ 0 → _≡_ {A = ℕ} (cond (ltb 23 i) QI 0) (qiRefusal system year i)
-unfolding qiRefusal
-qi-seen system year i e =
-    let s = accepted system year e in
-    simp (inside 1 2 system (s .system-inside), inside 1 3000 year (s .year-inside))
+  pub step-seen : yearRefusal system year ≡ 0 → _≡_ {A = ℕ} (cond (ltb most i) STEP 0) (stepRefusal most system year i)
+  unfolding stepRefusal
+  step-seen e =
+      let s = accepted system year e in
+      simp (inside 1 2 system (s .system-inside), inside 1 3000 year (s .year-inside))
 
-pub accepted-qi : (system year i : ℕ) → qiRefusal system year i ≡ 0 → InScope system year × (i ≤ 23)
-unfolding qiRefusal
-accepted-qi system year i e =
-    let system-right = passed SYSTEM (outside 1 2 system) (cond (outside 1 3000 year) YEAR (cond (ltb 23 i) QI 0)) (omega arith) e in
-    let year-right = passed YEAR (outside 1 3000 year) (cond (ltb 23 i) QI 0) (omega arith) (system-right .1) in
-    let qi-right = passed QI (ltb 23 i) 0 (omega arith) (year-right .1) in (
-      record { system-inside = inside-of 1 2 system (system-right .0); year-inside = inside-of 1 3000 year (year-right .0) },
-      ltb-false 23 i (qi-right .0),
-    )
+  pub accepted-step : stepRefusal most system year i ≡ 0 → InScope system year × (i ≤ most)
+  unfolding stepRefusal
+  accepted-step e =
+      let system-right =
+      passed SYSTEM (outside 1 2 system) (cond (outside 1 3000 year) YEAR (cond (ltb most i) STEP 0)) (omega arith) e
+      in
+      let year-right = passed YEAR (outside 1 3000 year) (cond (ltb most i) STEP 0) (omega arith) (system-right .1) in
+      let step-right = passed STEP (ltb most i) 0 (omega arith) (year-right .1) in (
+        record { system-inside = inside-of 1 2 system (system-right .0); year-inside = inside-of 1 3000 year (year-right .0) },
+        ltb-false most i (step-right .0),
+      )
 
-pub in-scope-qi : (system year i : ℕ) → InScope system year → i ≤ 23 → qiRefusal system year i ≡ 0
-unfolding qiRefusal
-in-scope-qi system year i s h =
-    simp (inside 1 2 system (s .system-inside), inside 1 3000 year (s .year-inside), le-ltb 23 i h)
+  pub in-scope-step : InScope system year → i ≤ most → stepRefusal most system year i ≡ 0
+  unfolding stepRefusal
+  in-scope-step s h =
+      simp (inside 1 2 system (s .system-inside), inside 1 3000 year (s .year-inside), le-ltb most i h)
 
-pub qi-refused : (system year i : ℕ) → InScope system year → 23 < i → qiRefusal system year i ≡ QI
-unfolding qiRefusal
-qi-refused system year i s h =
-    simp (inside 1 2 system (s .system-inside), inside 1 3000 year (s .year-inside), lt-ltb 23 i h)
+  pub step-refused : InScope system year → most < i → stepRefusal most system year i ≡ STEP
+  unfolding stepRefusal
+  step-refused s h =
+      simp (inside 1 2 system (s .system-inside), inside 1 3000 year (s .year-inside), lt-ltb most i h)

@@ -4,13 +4,15 @@ use mathlib.Core.Path.{_≡_, refl, sym, _∙_}
 use mathlib.Core.Logic.{inl, inr}
 use native.Mathlib.Omega.{arith}
 use Rattle.calendar.specs.declared.data.Constants.{Constants}
+use Rattle.calendar.specs.Qi.{qi}
+use Rattle.calendar.specs.Pentad.{pentad}
 use Rattle.calendar.proofs.Rising.{by-order}
-use Rattle.reckoning.specs.WordedRefusals.{FirstOf, yearRows, qiRows}
-use Rattle.reckoning.specs.ComputedRefusals.{yearRefusal, qiRefusal}
+use Rattle.reckoning.specs.WordedRefusals.{FirstOf, yearRows, stepRows, qiRows, pentadRows}
+use Rattle.reckoning.specs.ComputedRefusals.{yearRefusal, stepRefusal, qiRefusal, pentadRefusal}
 use Rattle.reckoning.specs.Asked.{askedOf}
-use Rattle.reckoning.specs.Requests.{answerUnless, solsticeIn, noSolstice, solsticeOf, qiIn, noQi, qiOf}
+use Rattle.reckoning.specs.Requests.{answerUnless, solsticeIn, noSolstice, solsticeOf, momentIn, noMoment, qiOf, pentadOf}
 use Rattle.reckoning.specs.Requests.{yearIn, noYear, yearOf, sheetIn, noSheet, sheetOf}
-use Rattle.reckoning.proofs.RefusalCases.{by-scope, in-scope, in-scope-qi, qi-unseen, qi-refused}
+use Rattle.reckoning.proofs.RefusalCases.{by-scope, in-scope, in-scope-step, step-unseen, step-refused}
 use Rattle.reckoning.proofs.AnswerUnless.{refused}
 
 pub year-refusal-first : (system year : ℕ) → FirstOf (yearRows system year) (yearRefusal system year)
@@ -20,21 +22,27 @@ year-refusal-first system year =
     (λ i no-year e. inr (λ w. w i, inl (e, no-year)))
     (λ s. inr (λ w. w (s .system-inside), inr (λ w. w (s .year-inside), in-scope system year s)))
 
-pub qi-refusal-first : (system year i : ℕ) → FirstOf (qiRows system year i) (qiRefusal system year i)
-qi-refusal-first system year i =
+step-refusal-first : (most system year i : ℕ) → FirstOf (stepRows most system year i) (stepRefusal most system year i)
+step-refusal-first most system year i =
     by-scope system year
-    (λ no-system e. inl (sym (qi-unseen system year i (λ z. omega arith)) ∙ e, no-system))
-    (λ s no-year e. inr (λ w. w s, inl (sym (qi-unseen system year i (λ z. omega arith)) ∙ e, no-year)))
+    (λ no-system e. inl (sym (step-unseen most system year i (λ z. omega arith)) ∙ e, no-system))
+    (λ s no-year e. inr (λ w. w s, inl (sym (step-unseen most system year i (λ z. omega arith)) ∙ e, no-year)))
     (λ s.
     inr (
       λ w. w (s .system-inside),
       inr (
         λ w. w (s .year-inside),
-        by-order 23 i
-            (λ h. inl (qi-refused system year i s h, h))
-            (λ h. inr (λ w. omega arith, in-scope-qi system year i s h)),
+        by-order most i
+            (λ h. inl (step-refused most system year i s h, h))
+            (λ h. inr (λ w. omega arith, in-scope-step most system year i s h)),
       ),
     ))
+
+pub qi-refusal-first : (system year i : ℕ) → FirstOf (qiRows system year i) (qiRefusal system year i)
+qi-refusal-first = step-refusal-first 23
+
+pub pentad-refusal-first : (system year p : ℕ) → FirstOf (pentadRows system year p) (pentadRefusal system year p)
+pentad-refusal-first = step-refusal-first 71
 
 -- Refused, each gives its blank with the number.
 blank-given : {A : Type 0} (answer : Constants → ℕ → A) (blank : ℕ → A) (refusal system year : ℕ) → (refusal ≡ 0 → ⊥)
@@ -55,6 +63,13 @@ module _ (system year : ℕ) (some : yearRefusal system year ≡ 0 → ⊥) wher
   unfolding sheetOf
   sheet-blank = blank-given sheetIn noSheet (yearRefusal system year) system year some
 
-pub qi-blank : (system year i : ℕ) → (qiRefusal system year i ≡ 0 → ⊥) → qiOf system year i ≡ noQi (qiRefusal system year i)
+pub qi-blank : (system year i : ℕ) → (qiRefusal system year i ≡ 0 → ⊥) → qiOf system year i ≡ noMoment (qiRefusal system year i)
 unfolding qiOf
-qi-blank system year i some = blank-given (λ c n. qiIn c n i) noQi (qiRefusal system year i) system year some
+qi-blank system year i some =
+    blank-given (λ c n. momentIn c (c .units) (qi c n i)) noMoment (qiRefusal system year i) system year some
+
+pub pentad-blank : (system year p : ℕ) → (pentadRefusal system year p ≡ 0 → ⊥)
+    → pentadOf system year p ≡ noMoment (pentadRefusal system year p)
+unfolding pentadOf
+pentad-blank system year p some =
+    blank-given (λ c n. momentIn c (c .fraction) (pentad c n p)) noMoment (pentadRefusal system year p) system year some

@@ -1,9 +1,7 @@
 -- How the requests for a year's days, for one month and for a date end, in the paper's words.
 use Prim.Native.Nat.{ℕ, _+_, _-_, _≤_, _<_}
 use mathlib.Core.Path.{_≡_, refl, subst, sym, ap, _∙_}
-use mathlib.Core.Bool.{Bool, true, false, true≢false, _||_}
-use lib.Dec.{ltb, leb}
-use borrow.Author.Tests.{ltb-false, leb-false, le-ltb, lt-leb}
+use mathlib.Core.Bool.{true, false, true≢false}
 use mathlib.Core.Logic.{inl, inr, ⊎-elim}
 use native.Mathlib.Omega.{arith}
 use Rattle.calendar.specs.Inside.{Inside}
@@ -28,6 +26,7 @@ use Rattle.reckoning.specs.RefusalNumbers.{SYSTEM, YEAR}
 use Rattle.reckoning.proofs.RefusalCases.{by-inside, by-scope}
 use Rattle.reckoning.proofs.ScopeInRegister.{year-in-register}
 use Rattle.reckoning.proofs.AnswerUnless.{refused-year, answered-year}
+use Rattle.reckoning.proofs.YearOfDay.{by-years}
 use Rattle.reckoning.proofs.RegisterLaws.{first-head, next-head}
 use Rattle.reckoning.proofs.MonthRequest.{number-wrong, mark-wrong, ordinary-month, leap-month, leap-lacks}
 
@@ -123,26 +122,7 @@ month-outcome system year number leap =
     (leap-number c ok n)
     (sym (leap-lacks c n number leap told e f (λ z. omega arith) g ∙ answer s)))))))
 
-neither : (a b c d : ℕ) → ltb a b || leb c d ≡ false → (b ≤ a) × (d < c)
-neither a b c d e = go (ltb a b) (leb c d) refl refl e
-  where
-    go : (x y : Bool) → ltb a b ≡ x → leb c d ≡ y → x || y ≡ false → (b ≤ a) × (d < c)
-    go true y p q f = absurd (true≢false f)
-    go false true p q f = absurd (true≢false f)
-    go false false p q f = (ltb-false a b p, leb-false c d q)
-
 -- A register day is one of years 1 to 3000, or refused.
-scope-day-right : (system r : ℕ) → DayInScope system r → dayWrong (constantsOf system) r ≡ false
-scope-day-right system r p =
-    let c = constantsOf system in
-    let ok = consistent system in
-    let a = ap (monthHead c) (span-first c ok (p .first)) in
-    let b = ap (monthHead c) (span-first c ok (p .past)) in
-    simp (
-      le-ltb (r + c .anchor) (headOfYear c (yearsElapsed c 1)) (omega (arith, p .from)),
-      lt-leb (headOfYear c (yearsElapsed c 3001)) (r + c .anchor) (omega (arith, p .before)),
-    )
-
 by-day-scope : {P : Type 0} (system r : ℕ)
     → (dayWrong (constantsOf system) r ≡ true → (DayInScope system r → ⊥) → P)
     → (dayWrong (constantsOf system) r ≡ false → DayInScope system r → P)
@@ -150,11 +130,15 @@ by-day-scope : {P : Type 0} (system r : ℕ)
 by-day-scope system r out into =
     let c = constantsOf system in
     let ok = consistent system in
-    by-bool (dayWrong c r)
-    (λ e. out e (λ p. true≢false (sym e ∙ scope-day-right system r p)))
-    (λ e.
-    let bounds = neither (r + c .anchor) (headOfYear c (yearsElapsed c 1)) (headOfYear c (yearsElapsed c 3001)) (r + c .anchor) e in
-    into e (record { first = span c ok (yearsElapsed c 1); past = span c ok (yearsElapsed c 3001); from = bounds .0; before = bounds .1 }))
+    by-years (headOfYear c) c r
+    (λ e no-day.
+    out e
+    (λ p.
+    no-day (
+      omega (arith, p .from, ap (monthHead c) (span-first c ok (p .first))),
+      omega (arith, p .before, ap (monthHead c) (span-first c ok (p .past))),
+    )))
+    (λ e w. into e (record { first = span c ok (yearsElapsed c 1); past = span c ok (yearsElapsed c 3001); from = w .0; before = w .1 }))
 
 -- The date of a day in scope, by the closed forms.
 found-date : (system r : ℕ) → SystemInScope system → DayInScope system r

@@ -1,4 +1,4 @@
--- What the answers for a solstice, a qi and a day sheet hold, in the paper's words. A register day is a count day less
+-- What the answers for a solstice, a qi, a pentad and a day sheet hold, in the paper's words. A register day is a count day less
 -- the anchor.
 use Prim.Native.Nat.{ℕ, _+_, _*_, _≤_, _<_}
 use mathlib.Core.Path.{_≡_}
@@ -6,10 +6,12 @@ use lib.ListN.{length, getD}
 use Rattle.calendar.specs.declared.data.Constants.{Constants}
 use Rattle.calendar.specs.Systems.{IsRegisterDay}
 use Rattle.calendar.specs.SixtyDayName.{nameOfCountDay}
-use Rattle.calendar.specs.Qi.{solsticeDay, solsticeRemainder, qi}
+use Rattle.calendar.specs.Steps.{solsticeDay, solsticeRemainder}
+use Rattle.calendar.specs.Qi.{qi}
+use Rattle.calendar.specs.Pentad.{pentad}
 use Rattle.calendar.specs.Year.{Span, yearHead, yearLength}
 use Rattle.reckoning.specs.declared.data.Solstice.{Solstice}
-use Rattle.reckoning.specs.declared.data.Qi.{Qi}
+use Rattle.reckoning.specs.declared.data.Moment.{Moment}
 use Rattle.reckoning.specs.declared.data.Sheet.{Sheet}
 
 -- The solstice of year n.
@@ -18,12 +20,26 @@ pub record IsSolstice (c : Constants) (n : ℕ) (v : Solstice) : Type 0 where
   pub day : IsRegisterDay c (v .day .0) (solsticeDay c n)
   pub remainder : v .remainder ≡ solsticeRemainder c n
 
--- Qi i of year n: its day, parts and small units together are its moment, to the last small unit.
-pub record IsQi (c : Constants) (n i : ℕ) (v : Qi) : Type 0 where
+-- The moment m, counted in units of which a part has u: its day, parts and units together, to the last unit.
+pub record IsMoment (c : Constants) (u m : ℕ) (v : Moment) : Type 0 where
   pub accepted : v .refusal ≡ 0
-  pub moment : ((v .day .0 + c .anchor) * c .solar + v .parts) * c .units + v .units ≡ qi c n i
+  pub moment : ((v .day .0 + c .anchor) * c .solar + v .parts) * u + v .units ≡ m
   pub parts-below : v .parts < c .solar
-  pub units-below : v .units < c .units
+  pub units-below : v .units < u
+
+-- Qi i of year n, in small units.
+abbrev pub IsQi : Constants → ℕ → ℕ → Moment → Type 0
+IsQi c n i v = IsMoment c (c .units) (qi c n i) v
+
+-- Pentad p of year n, in the units of its fraction.
+abbrev pub IsPentad : Constants → ℕ → ℕ → Moment → Type 0
+IsPentad c n p v = IsMoment c (c .fraction) (pentad c n p) v
+
+-- A pentad and a qi that are one moment: the same day and parts, and units that are the same fraction of a part.
+pub record SameMoment (c : Constants) (pentad qi : Moment) : Type 0 where
+  pub day : pentad .day .0 ≡ qi .day .0
+  pub parts : pentad .parts ≡ qi .parts
+  pub fractions : c .units * pentad .units ≡ c .fraction * qi .units
 
 -- The names of the days of year n, by the name of count day 0, and 255 past the year's end.
 pub record IsSheet (c : Constants) (n : ℕ) (v : Sheet) : Type 0 where

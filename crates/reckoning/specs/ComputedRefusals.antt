@@ -6,8 +6,9 @@ use mathlib.Core.List.{List, [], _∷_}
 use lib.Dec.{ltb, leb, eqb}
 use Rattle.calendar.specs.declared.data.Constants.{Constants}
 use Rattle.calendar.specs.Systems.{yearsElapsed}
+use Rattle.calendar.specs.Steps.{solsticeDay}
 use Rattle.calendar.specs.ClosedForms.{headOfYear, leapFollows}
-use Rattle.reckoning.specs.RefusalNumbers.{SYSTEM, YEAR, QI}
+use Rattle.reckoning.specs.RefusalNumbers.{SYSTEM, YEAR, STEP}
 
 infixl 20 _if_
 -- A refusal's number, and whether it applies.
@@ -23,23 +24,31 @@ first ((number if applies) ∷ rules) = cond applies number (first rules)
 abbrev pub outside : ℕ → ℕ → ℕ → Bool
 outside least most x = ltb x least || ltb most x
 
--- Refusals SYSTEM, YEAR and QI.
+-- Refusals SYSTEM, YEAR and STEP.
 abbrev pub wrongSystem : ℕ → Rule
 wrongSystem system = SYSTEM if outside 1 2 system
 
 abbrev pub wrongYear : ℕ → Rule
 wrongYear year = YEAR if outside 1 3000 year
 
-abbrev pub wrongQi : ℕ → Rule
-wrongQi i = QI if ltb 23 i
+abbrev pub wrongStep : ℕ → ℕ → Rule
+wrongStep most i = STEP if ltb most i
 
 -- A direct request by system and year is refused SYSTEM, then YEAR,
 unfoldable pub yearRefusal : ℕ → ℕ → ℕ
 yearRefusal system year = first (wrongSystem system ∷ wrongYear year ∷ [])
 
--- and then QI where a qi is asked.
-unfoldable pub qiRefusal : ℕ → ℕ → ℕ → ℕ
-qiRefusal system year i = first (wrongSystem system ∷ wrongYear year ∷ wrongQi i ∷ [])
+-- and then STEP where one of the year's steps is asked, of which the last has number `most`:
+unfoldable pub stepRefusal : ℕ → ℕ → ℕ → ℕ → ℕ
+stepRefusal most system year i = first (wrongSystem system ∷ wrongYear year ∷ wrongStep most i ∷ [])
+
+-- a qi,
+abbrev pub qiRefusal : ℕ → ℕ → ℕ → ℕ
+qiRefusal system year i = stepRefusal 23 system year i
+
+-- or a pentad.
+abbrev pub pentadRefusal : ℕ → ℕ → ℕ → ℕ
+pentadRefusal system year p = stepRefusal 71 system year p
 
 -- Refusal MONTH: a number or a mark that no month has.
 abbrev pub monthWrong : ℕ → ℕ → Bool
@@ -49,7 +58,16 @@ monthWrong number leap = outside 1 12 number || outside 0 1 leap
 abbrev pub leapWrong : Constants → ℕ → ℕ → ℕ → Bool
 leapWrong c n number leap = eqb leap 1 && not (leapFollows c n number)
 
--- Refusal DAY, of a register day: it lies outside years 1 to 3000, which end where year 3001 begins.
+-- Refusal DAY, of a register day: it lies outside years 1 to 3000, which end where year 3001 begins. `begins` tells the
+-- count day that a year begins on:
+abbrev pub outsideYears : (ℕ → ℕ) → Constants → ℕ → Bool
+outsideYears begins c r =
+    ltb (r + c .anchor) (begins (yearsElapsed c 1)) || leb (begins (yearsElapsed c 3001)) (r + c .anchor)
+
+-- its head,
 abbrev pub dayWrong : Constants → ℕ → Bool
-dayWrong c r =
-    ltb (r + c .anchor) (headOfYear c (yearsElapsed c 1)) || leb (headOfYear c (yearsElapsed c 3001)) (r + c .anchor)
+dayWrong c r = outsideYears (headOfYear c) c r
+
+-- or, counted from solstice to solstice, the solstice's day.
+abbrev pub solarDayWrong : Constants → ℕ → Bool
+solarDayWrong c r = outsideYears (solsticeDay c) c r

@@ -10,13 +10,15 @@ pub mod WordedRefusals
 pub mod ComputedRefusals
 -- What a request by system and year stands on.
 pub mod Asked
+-- Common years told from years elapsed.
+pub mod CommonYears
 -- Months as the code has them.
 pub mod MonthSpans
 -- What each request answers.
 pub mod Requests
 -- What the value of a year's months holds, in the paper's words.
 pub mod YearValue
--- What the answers for a solstice, a qi and a day sheet hold.
+-- What the answers for a solstice, a qi, a pentad and a day sheet hold.
 pub mod AnswerMeanings
 -- How the other requests can end.
 pub mod Outcomes

@@ -1,4 +1,4 @@
--- The numbers of the refusals: paper 01, "Numbered refusals", and paper 02, Q-3. Each name says what is wrong, as in include/chiselbrow.h.
+-- The numbers of the refusals: paper 01, "Numbered refusals", and paper 02, Q-3 and Q-4. Each name says what is wrong, as in include/chiselbrow.h.
 use Prim.Native.Nat.{ℕ}
 
 -- The input is too short to be a record.
@@ -33,9 +33,9 @@ DAY = 7
 abbrev pub OUTPUT : ℕ
 OUTPUT = 8
 
--- There is no such qi.
-abbrev pub QI : ℕ
-QI = 9
+-- There is no such qi, or no such pentad.
+abbrev pub STEP : ℕ
+STEP = 9
 
 -- The year has no such leap month.
 abbrev pub LEAP : ℕ

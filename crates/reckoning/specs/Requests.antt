@@ -1,5 +1,5 @@
--- What each request answers, for every input: paper 01, "Reckoning" and "Numbered refusals", and paper 02, Q-3.
-use Prim.Native.Nat.{ℕ, _+_, _-_}
+-- What each request answers, for every input: paper 01, "Reckoning" and "Numbered refusals", and paper 02, Q-3 and Q-4.
+use Prim.Native.Nat.{ℕ, _+_, _-_, _/_, _%_}
 use mathlib.Core.Bool.{cond}
 use mathlib.Core.List.{List}
 use lib.Dec.{eqb}
@@ -8,19 +8,25 @@ use Rattle.calendar.specs.declared.data.Constants.{Constants}
 use Rattle.calendar.specs.declared.data.RegisterDay.{RegisterDay}
 use Rattle.calendar.specs.Systems.{constantsOf, yearsElapsed, registerDay}
 use Rattle.calendar.specs.SixtyDayName.{nameOf}
-use Rattle.calendar.specs.Qi.{solsticeDay, solsticeRemainder, qi, dayOf, partsOf, unitsOf}
+use Rattle.calendar.specs.Steps.{solsticeDay, solsticeRemainder, moment, dayOf, partsOf, unitsOf}
+use Rattle.calendar.specs.Qi.{qi}
+use Rattle.calendar.specs.Pentad.{pentad}
 use Rattle.calendar.specs.Month.{monthHead}
-use Rattle.calendar.specs.ClosedForms.{monthOfDay, firstMonth, headOfYear, yearOfMonth, monthNumber, leapMark, monthCited}
+use Rattle.calendar.specs.ClosedForms.{pentadOn, monthOfDay, firstMonth, headOfYear, yearOfMonth, monthNumber, leapMark, monthCited}
 use Rattle.calendar.specs.LeapMonth.{leapNumber}
 use Rattle.reckoning.specs.declared.data.Solstice.{Solstice}
-use Rattle.reckoning.specs.declared.data.Qi.{Qi}
+use Rattle.reckoning.specs.declared.asked.Asked.{Asked}
+use Rattle.reckoning.specs.declared.data.Moment.{Moment}
+use Rattle.reckoning.specs.declared.data.PentadInForce.{PentadInForce}
 use Rattle.reckoning.specs.declared.data.Year.{Year}
 use Rattle.reckoning.specs.declared.data.Sheet.{Sheet}
 use Rattle.reckoning.specs.declared.data.Month.{Month}
 use Rattle.reckoning.specs.declared.data.Days.{Days}
 use Rattle.reckoning.specs.declared.data.Date.{Date}
-use Rattle.reckoning.specs.ComputedRefusals.{outside, yearRefusal, qiRefusal, monthWrong, leapWrong, dayWrong}
+use Rattle.reckoning.specs.ComputedRefusals.{outside, yearRefusal, qiRefusal, pentadRefusal}
+use Rattle.reckoning.specs.ComputedRefusals.{monthWrong, leapWrong, dayWrong, solarDayWrong}
 use Rattle.reckoning.specs.RefusalNumbers.{SYSTEM, MONTH, DAY, LEAP}
+use Rattle.reckoning.specs.CommonYears.{commonYearAt}
 use Rattle.reckoning.specs.Filled.{filled}
 
 abbrev pub asRegisterDay : ℕ → RegisterDay
@@ -31,6 +37,10 @@ asRegisterDay r = record { 0 = r }
 abbrev pub answerUnless : {A : Type 0} → ℕ → ℕ → ℕ → (Constants → ℕ → A) → (ℕ → A) → A
 answerUnless refusal system year answer blank =
     cond (eqb refusal 0) (answer (constantsOf system) (yearsElapsed (constantsOf system) year)) (blank refusal)
+
+-- A request by system and register day: refused SYSTEM where there is no such system, or answered by its constants.
+abbrev pub answerOfSystem : {A : Type 0} → ℕ → (Constants → A) → (ℕ → A) → A
+answerOfSystem system answer blank = cond (outside 1 2 system) (blank SYSTEM) (answer (constantsOf system))
 
 -- The solstice of year n. Refused: zeros.
 abbrev pub solsticeIn : Constants → ℕ → Solstice
@@ -43,17 +53,27 @@ noSolstice refusal = record { refusal = refusal; day = asRegisterDay 0; remainde
 unfoldable pub solsticeOf : ℕ → ℕ → Solstice
 solsticeOf system year = answerUnless (yearRefusal system year) system year solsticeIn noSolstice
 
--- Qi i of year n, its moment told as register day, parts and small units. Refused: zeros.
-abbrev pub qiIn : Constants → ℕ → ℕ → Qi
-qiIn c n i =
-    let u = qi c n i in
-    record { refusal = 0; day = asRegisterDay (registerDay c (dayOf c u)); parts = partsOf c u; units = unitsOf c u }
+-- A moment m, counted in units of which a part has u, told as register day, parts and units. Refused: zeros.
+abbrev pub momentIn : Constants → ℕ → ℕ → Moment
+momentIn c u m =
+    record { refusal = 0; day = asRegisterDay (registerDay c (dayOf c u m)); parts = partsOf c u m; units = unitsOf u m }
 
-abbrev pub noQi : ℕ → Qi
-noQi refusal = record { refusal = refusal; day = asRegisterDay 0; parts = 0; units = 0 }
+abbrev pub noMoment : ℕ → Moment
+noMoment refusal = record { refusal = refusal; day = asRegisterDay 0; parts = 0; units = 0 }
 
-unfoldable pub qiOf : ℕ → ℕ → ℕ → Qi
-qiOf system year i = answerUnless (qiRefusal system year i) system year (λ c n. qiIn c n i) noQi
+-- Step i of the year asked for, of s equal ones.
+abbrev pub stepAnswer : Asked → ℕ → ℕ → ℕ → Moment
+stepAnswer asked s u i =
+    cond (eqb (asked .refusal) 0) (momentIn (asked .c) u (moment (asked .c) s u (asked .n) i)) (noMoment (asked .refusal))
+
+-- Qi i of a year, in small units.
+unfoldable pub qiOf : ℕ → ℕ → ℕ → Moment
+qiOf system year i = answerUnless (qiRefusal system year i) system year (λ c n. momentIn c (c .units) (qi c n i)) noMoment
+
+-- Pentad p of a year, in the units of its fraction.
+unfoldable pub pentadOf : ℕ → ℕ → ℕ → Moment
+pentadOf system year p =
+    answerUnless (pentadRefusal system year p) system year (λ c n. momentIn c (c .fraction) (pentad c n p)) noMoment
 
 -- The months of year n in order: their heads with the next year's head after them, their numbers and leap marks; 0 in
 -- unused places. Refused: count, heads, numbers and marks all 0.
@@ -161,7 +181,7 @@ dateAt c d =
     let k = monthOfDay c d in
     record {
       refusal = 0;
-      year = yearOfMonth c k + c .common - c .elapsed;
+      year = commonYearAt c (yearOfMonth c k);
       month = monthNumber c k;
       leap = leapMark c k;
       day = d - monthHead c k + 1;
@@ -174,4 +194,18 @@ unfoldable pub dateIn : Constants → ℕ → Date
 dateIn c r = cond (dayWrong c r) (noDate DAY) (dateAt c (r + c .anchor))
 
 unfoldable pub dateOf : ℕ → ℕ → Date
-dateOf system r = cond (outside 1 2 system) (noDate SYSTEM) (dateIn (constantsOf system) r)
+dateOf system r = answerOfSystem system (λ c. dateIn c r) noDate
+
+-- The pentad in force at the end of a register day, and its year, counted from solstice to solstice; DAY outside years 1
+-- to 3000 so counted. Refused: zeros.
+abbrev pub pentadAt : Constants → ℕ → PentadInForce
+pentadAt c d = record { refusal = 0; year = commonYearAt c (pentadOn c d / 72); pentad = pentadOn c d % 72 }
+
+abbrev pub noPentad : ℕ → PentadInForce
+noPentad refusal = record { refusal = refusal; year = 0; pentad = 0 }
+
+unfoldable pub pentadIn : Constants → ℕ → PentadInForce
+pentadIn c r = cond (solarDayWrong c r) (noPentad DAY) (pentadAt c (r + c .anchor))
+
+unfoldable pub pentadInForce : ℕ → ℕ → PentadInForce
+pentadInForce system r = answerOfSystem system (λ c. pentadIn c r) noPentad

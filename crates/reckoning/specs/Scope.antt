@@ -1,11 +1,12 @@
 -- What is in scope, and so when refusals SYSTEM, YEAR, MONTH and LEAP apply, and DAY to a register day: paper 01,
--- "Numbered refusals", and paper 02, Q-3.
+-- "Numbered refusals", and paper 02, Q-3 and Q-4.
 use Prim.Native.Nat.{ℕ, _+_, _≤_, _<_}
 use mathlib.Core.Path.{_≡_}
 use mathlib.Core.Logic.{_⊎_}
 use Rattle.calendar.specs.declared.data.Constants.{Constants}
 use Rattle.calendar.specs.Inside.{Inside}
 use Rattle.calendar.specs.Systems.{constantsOf, yearsElapsed}
+use Rattle.calendar.specs.Steps.{solsticeDay}
 use Rattle.calendar.specs.Year.{Span, yearHead, HasLeap}
 
 -- Refusal SYSTEM is for any other system,
@@ -28,6 +29,12 @@ NoSuchMonth number leap = (Inside 1 12 number → ⊥) ⊎ (Inside 0 1 leap → 
 -- Refusal LEAP: the leap mark, where year n has no leap month of that number.
 abbrev pub NotLeap : Constants → ℕ → ℕ → ℕ → Type 0
 NotLeap c n number leap = (leap ≡ 1) × (HasLeap c n number → ⊥)
+
+-- The register days of years 1 to 3000 counted from solstice to solstice, by the solstice days of years 1 and 3001; a
+-- request for the pentad in force is refused DAY for any other.
+pub record SolarDayInScope (system r : ℕ) : Type 0 where
+  pub from : solsticeDay (constantsOf system) (yearsElapsed (constantsOf system) 1) ≤ r + constantsOf system .anchor
+  pub before : r + constantsOf system .anchor < solsticeDay (constantsOf system) (yearsElapsed (constantsOf system) 3001)
 
 -- The register days of years 1 to 3000, by the heads of years 1 and 3001; refusal DAY is for any other.
 pub record DayInScope (system r : ℕ) : Type 0 where

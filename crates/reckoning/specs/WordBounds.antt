@@ -2,7 +2,7 @@
 use Prim.Native.Nat.{ℕ, _+_, _*_, _^_, _≤_, _<_}
 use mathlib.Core.Path.{_≡_}
 use Rattle.calendar.specs.declared.data.Constants.{Constants}
-use Rattle.calendar.specs.Qi.{solstice, solsticeDay, qi, dayOf}
+use Rattle.calendar.specs.Steps.{solstice, solsticeDay, moment, dayOf}
 use Rattle.calendar.specs.Month.{monthHead}
 use Rattle.calendar.specs.Consistent.{Consistent}
 use Rattle.calendar.specs.ClosedForms.{firstMonth}
@@ -13,11 +13,11 @@ use Rattle.reckoning.specs.MonthSpans.{monthSpan}
 pub record ConstantsFit (c : Constants) : Type 0 where
   pub consistent : Consistent c
   pub units-small : c .units < 2 ^ 32
+  pub fraction-small : c .fraction < 2 ^ 32
   pub lunar-days : 2 ^ 38 * c .lunar < 2 ^ 63
-  pub solar-days : 2 ^ 38 * (12 * c .solar) < 2 ^ 63
+  pub solar-days : 2 ^ 38 * (72 * c .solar) < 2 ^ 63
   pub months : 2 ^ 32 * c .month < 2 ^ 63
   pub years : 2 ^ 32 * c .year < 2 ^ 63
-  pub year-units : c .year * c .units < 2 ^ 62
   pub elapsed-small : c .elapsed < 2 ^ 31
   pub anchor-small : c .anchor < 2 ^ 35
 
@@ -38,10 +38,30 @@ pub record YearInRegister (c : Constants) (n : ℕ) : Type 0 where
   pub elapsed : n + 1 < 2 ^ 28
   pub months : firstMonth c (n + 1) < 2 ^ 31
   pub solstice-small : solstice c n < 2 ^ 62
-  pub qi-small : (i : ℕ) → i ≤ 23 → qi c n i < 2 ^ 62
+  pub next-in-units : solstice c (n + 1) * c .units < 2 ^ 62
+  pub next-in-fractions : solstice c (n + 1) * c .fraction < 2 ^ 62
   pub solstice-day : InRegister c (solsticeDay c n)
-  pub qi-day : (i : ℕ) → i ≤ 23 → InRegister c (dayOf c (qi c n i))
+  pub next-solstice-day : InRegister c (solsticeDay c (n + 1))
   pub head : (k : ℕ) → firstMonth c n ≤ k → k ≤ firstMonth c (n + 1) → InRegister c (monthHead c k)
+
+-- Step i of year n, of s equal ones, in units of which a part has u.
+pub record StepFits (c : Constants) (s u n i : ℕ) : Type 0 where
+  pub constants-fit : ConstantsFit c
+  pub steps-some : 0 < s
+  pub units-some : 0 < u
+  pub units-small : u < 2 ^ 32
+  pub year-small : c .year * u < 2 ^ 62
+  pub solstice-small : solstice c n < 2 ^ 62
+  pub moment-small : moment c s u n i < 2 ^ 62
+  pub day : InRegister c (dayOf c u (moment c s u n i))
+
+-- A day that can be counted in parts by s, as the last of s equal steps a year before it is found.
+pub record StepsFit (c : Constants) (s d : ℕ) : Type 0 where
+  pub constants-fit : ConstantsFit c
+  pub steps-some : 0 < s
+  pub steps-most : s ≤ 72
+  pub day-some : 0 < d
+  pub day-small : d ≤ 2 ^ 38
 
 -- Year n and its first month, with room for sixteen middle qi and months from there.
 pub record FirstMonthFits (c : Constants) (n first : ℕ) : Type 0 where

@@ -3,7 +3,7 @@ use Prim.Native.Nat.{ℕ, _<_}
 use mathlib.Core.Path.{_≡_}
 use mathlib.Core.Logic.{_⊎_}
 use mathlib.Core.List.{List, [], _∷_, _++_}
-use Rattle.reckoning.specs.RefusalNumbers.{SYSTEM, YEAR, QI}
+use Rattle.reckoning.specs.RefusalNumbers.{SYSTEM, YEAR, STEP}
 use Rattle.reckoning.specs.Scope.{SystemInScope, YearInScope}
 
 infixl 80 _when_
@@ -21,6 +21,14 @@ FirstOf ((refusal when applies) ∷ rows) number =
 abbrev pub yearRows : ℕ → ℕ → List Row
 yearRows system year = SYSTEM when (SystemInScope system → ⊥) ∷ YEAR when (YearInScope year → ⊥) ∷ []
 
--- and then QI where a qi is asked.
+-- and then STEP where one of the year's steps is asked, of which the last has number `most`:
+abbrev pub stepRows : ℕ → ℕ → ℕ → ℕ → List Row
+stepRows most system year i = yearRows system year ++ (STEP when (most < i) ∷ [])
+
+-- a qi,
 abbrev pub qiRows : ℕ → ℕ → ℕ → List Row
-qiRows system year i = yearRows system year ++ (QI when (23 < i) ∷ [])
+qiRows system year i = stepRows 23 system year i
+
+-- or a pentad.
+abbrev pub pentadRows : ℕ → ℕ → ℕ → List Row
+pentadRows system year p = stepRows 71 system year p

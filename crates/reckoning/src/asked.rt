@@ -2,7 +2,7 @@
 ghost use mathlib.Core.Path.{_≡_};
 ghost use Rattle.calendar.specs.Systems.{constantsOf};
 ghost use Rattle.reckoning.specs.Asked.{askedOf};
-ghost use Rattle.reckoning.specs.ComputedRefusals.{yearRefusal, qiRefusal};
+ghost use Rattle.reckoning.specs.ComputedRefusals.{yearRefusal, stepRefusal};
 use crate::closed_forms::years_elapsed;
 use crate::refusal;
 use calendar::data::Constants;
@@ -42,8 +42,8 @@ pub(crate) fn of_year(system: u32, year: u32) -> Asked
     ask(refusal::of_year(system, year), system, year)
 }
 
-pub(crate) fn of_qi(system: u32, year: u32, i: u32) -> Asked
-    ensures { λ r. ⌜ r ≡ askedOf (qiRefusal system year i) system year ⌝ }
+pub(crate) fn of_step(system: u32, year: u32, most: u32, i: u32) -> Asked
+    ensures { λ r. ⌜ r ≡ askedOf (stepRefusal most system year i) system year ⌝ }
 {
-    ask(refusal::of_qi(system, year, i), system, year)
+    ask(refusal::of_step(system, year, most, i), system, year)
 }

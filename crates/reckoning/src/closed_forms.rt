@@ -5,9 +5,16 @@ ghost use Prim.Native.Nat.{_%_, _<_, _^_};
 ghost use Rattle.calendar.specs.Systems.{yearsElapsed, registerDay};
 ghost use Rattle.calendar.specs.Month.{monthHead, numberOf};
 ghost use Rattle.calendar.specs.ClosedForms.{dayOfQi};
-ghost use Rattle.reckoning.specs.WordBounds.{ConstantsFit, InRegister};
+ghost use Rattle.reckoning.specs.CommonYears.{commonYear};
+ghost use Rattle.reckoning.specs.MonthSpans.{lastStep};
+ghost use Rattle.reckoning.specs.WordBounds.{ConstantsFit, StepsFit, InRegister};
 use calendar::data::Constants;
 use calendar::data::RegisterDay;
+
+pub(crate) struct LastStep {
+    pub step: u64,
+    pub left: u64,
+}
 
 // Years elapsed, N, at a common year.
 pub(crate) fn years_elapsed(c: Constants, year: u32) -> u64
@@ -39,6 +46,34 @@ pub(crate) fn day_of_qi(c: Constants, g: u64) -> u64
     ensures { λ r. ⌜ r ≡ dayOfQi c g ⌝ }
 {
     g * c.year / (12 * c.solar)
+}
+
+// The last of `steps` equal steps a year on a day before d, counted on from the epoch; and what is then left up to d, of
+// parts by `steps`, less 1.
+pub(crate) fn last_step(c: Constants, steps: u64, d: u64) -> LastStep
+    requires { ⌜ StepsFit c steps d ⌝ }
+    ensures { λ r. ⌜ r ≡ lastStep c steps d ⌝ }
+{
+    let end = d * (steps * c.solar) - 1;
+    LastStep {
+        step: end / c.year,
+        left: end % c.year,
+    }
+}
+
+// The common year at n years elapsed, where it is one of years 1 to 3000; otherwise 0.
+pub(crate) fn common_year(c: Constants, n: u64) -> u32
+    requires { ⌜ ConstantsFit c × (n < 2 ^ 62) ⌝ }
+    ensures { λ r. ⌜ r ≡ commonYear c n ⌝ }
+{
+    let year = n + c.common;
+    if year <= c.elapsed {
+        return 0;
+    }
+    if c.elapsed + 3000 < year {
+        return 0;
+    }
+    (year - c.elapsed) as u32
 }
 
 // The number that middle qi g gives its month.

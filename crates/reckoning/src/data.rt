@@ -8,12 +8,21 @@ pub struct Solstice {
     pub remainder: u32,
 }
 
-// A qi: its day, and the parts and small units left over of it.
-pub struct Qi {
+// The moment of a qi or of a pentad: its day, and the parts and units left over of it. Units are a qi's small units, and of
+// a pentad those in which its fraction is told.
+pub struct Moment {
     pub refusal: u8,
     pub day: RegisterDay,
     pub parts: u32,
     pub units: u32,
+}
+
+// The pentad in force at the end of a day, and its year, counted from solstice to solstice. The number has 32 bits for the
+// reason that a date's year has.
+pub struct PentadInForce {
+    pub refusal: u8,
+    pub year: u32,
+    pub pentad: u32,
 }
 
 // The months of a year: `count` of them, 12 or 13, or 0 when refused. Their heads stand in order, the next year's head

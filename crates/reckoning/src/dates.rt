@@ -2,6 +2,7 @@
 ghost use mathlib.Core.Path.{_≡_};
 ghost use Rattle.reckoning.specs.Requests.{noDate, dateIn};
 ghost use Rattle.reckoning.specs.WordBounds.{ConstantsFit};
+use crate::closed_forms::common_year;
 use crate::closed_forms::number_of_qi;
 use crate::data::Date;
 use crate::month_spans;
@@ -29,17 +30,14 @@ pub(crate) fn of_day(c: Constants, day: RegisterDay) -> Date
     let d = day.0 as u64 + c.anchor;
     let m = month_spans::of_day(c, d);
     let last = month_spans::last_qi(c, m);
-    let year = last.qi / 12 + c.common;
-    if year <= c.elapsed {
-        return none(DAY);
-    }
-    if c.elapsed + 3000 < year {
+    let year = common_year(c, last.qi / 12);
+    if year == 0 {
         return none(DAY);
     }
     let place = (d - m.head + 1) as u8;
     Date {
         refusal: 0,
-        year: (year - c.elapsed) as u32,
+        year: year,
         month: number_of_qi(last.qi),
         leap: last.leap,
         day: place,

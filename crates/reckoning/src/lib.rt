@@ -1,21 +1,24 @@
-// The requests by system and year: solstice, qi, months, days and day sheet; one month; the date and the name of a day.
+// The requests by system and year: solstice, qi, pentad, months, days and day sheet; one month; the date, the pentad in
+// force and the name of a day.
 //
-// System, year and qi number come as 32 bits, so that no number is cut before it can be refused. A refused request
+// System, year, qi and pentad number come as 32 bits, so that no number is cut before it can be refused. A refused request
 // gives a blank answer that carries the refusal number, and with LEAP the number of the year's leap month.
 ghost use mathlib.Core.Path.{_≡_};
 ghost use Rattle.calendar.specs.Systems.{constantsOf, yearsElapsed};
 ghost use Rattle.calendar.specs.SixtyDayName.{nameOf};
 ghost use Rattle.calendar.specs.LeapMonth.{leapNumber};
 ghost use Rattle.reckoning.specs.ComputedRefusals.{yearRefusal};
-ghost use Rattle.reckoning.specs.Requests.{solsticeOf, qiOf, yearOf, sheetOf, daysOf, monthIn, monthOf, dateOf};
+ghost use Rattle.reckoning.specs.Requests.{solsticeOf, qiOf, pentadOf, yearOf, sheetOf, daysOf};
+ghost use Rattle.reckoning.specs.Requests.{monthIn, monthOf, dateOf, pentadInForce};
 use calendar::data::DayName;
 use calendar::data::RegisterDay;
 use calendar::systems::guantian;
 use calendar::systems::jiyuan;
 use data::Date;
 use data::Days;
+use data::Moment;
 use data::Month;
-use data::Qi;
+use data::PentadInForce;
 use data::Sheet;
 use data::Solstice;
 use data::Year;
@@ -29,6 +32,7 @@ mod leap_months;
 mod month_spans;
 mod months;
 mod names;
+mod pentads;
 pub mod refusal;
 pub mod refusal_numbers;
 mod solar;
@@ -50,19 +54,19 @@ pub fn solstice(system: u32, year: u32) -> Solstice
 }
 
 // Qi i of a year, i from 0 (the winter solstice) to 23.
-pub fn qi(system: u32, year: u32, i: u32) -> Qi
+pub fn qi(system: u32, year: u32, i: u32) -> Moment
     ensures { λ r. ⌜ r ≡ qiOf system year i ⌝ }
 {
-    let asked = asked::of_qi(system, year, i);
-    if asked.refusal != 0 {
-        return Qi {
-            refusal: asked.refusal,
-            day: RegisterDay(0),
-            parts: 0,
-            units: 0,
-        };
-    }
-    solar::qi(asked.c, asked.n, i as u64)
+    let asked = asked::of_step(system, year, 23, i);
+    solar::answer(asked, 24, asked.c.units, i)
+}
+
+// Pentad p of a year, p from 0 (the winter solstice) to 71.
+pub fn pentad(system: u32, year: u32, p: u32) -> Moment
+    ensures { λ r. ⌜ r ≡ pentadOf system year p ⌝ }
+{
+    let asked = asked::of_step(system, year, 71, p);
+    solar::answer(asked, 72, asked.c.fraction, p)
 }
 
 // The months of a year.
@@ -96,7 +100,7 @@ pub fn sheet(system: u32, year: u32) -> Sheet
     names::of_year(asked.c, asked.n)
 }
 
-// The three requests below are what a citation asks. They call once for each system, so that the compiler knows the
+// The requests below, the first three of which a citation asks, call once for each system, so that the compiler knows the
 // constants and need not divide by variables.
 
 // The days of a year.
@@ -166,6 +170,19 @@ pub fn date(system: u32, day: RegisterDay) -> Date
         return dates::of_day(guantian(), day);
     }
     dates::of_day(jiyuan(), day)
+}
+
+// The pentad in force at the end of a register day; refused DAY outside years 1 to 3000, counted from solstice to solstice.
+pub fn pentad_in_force(system: u32, day: RegisterDay) -> PentadInForce
+    ensures { λ r. ⌜ r ≡ pentadInForce system (day .0) ⌝ }
+{
+    if refusal::outside(1, 2, system) {
+        return pentads::none(refusal_numbers::SYSTEM);
+    }
+    if system == 1 {
+        return pentads::of_day(guantian(), day);
+    }
+    pentads::of_day(jiyuan(), day)
 }
 
 // The sixty-day name of a register day.

@@ -6,6 +6,7 @@ ghost use Rattle.calendar.specs.ClosedForms.{monthOfDay, monthOfQi, firstMonth}
 ghost use Rattle.reckoning.specs.MonthSpans.{monthSpan, lastQi};
 ghost use Rattle.reckoning.specs.WordBounds.{ConstantsFit, SpanFits};
 use crate::closed_forms::day_of_qi;
+use crate::closed_forms::last_step;
 use crate::closed_forms::month_head;
 use calendar::data::Constants;
 
@@ -74,12 +75,16 @@ pub(crate) fn last_qi(c: Constants, m: MonthSpan) -> LastQi
     requires { ⌜ SpanFits c m ⌝ }
     ensures { λ r. ⌜ r ≡ lastQi c (m .month) ⌝ }
 {
-    let day = 12 * c.solar;
-    let end = m.next * day - 1;
-    let qi = end / c.year;
-    let length = (m.next - m.head) * day;
-    if end % c.year < length {
-        return LastQi { qi: qi, leap: 0 };
+    let last = last_step(c, 12, m.next);
+    let length = (m.next - m.head) * (12 * c.solar);
+    if last.left < length {
+        return LastQi {
+            qi: last.step,
+            leap: 0,
+        };
     }
-    LastQi { qi: qi, leap: 1 }
+    LastQi {
+        qi: last.step,
+        leap: 1,
+    }
 }

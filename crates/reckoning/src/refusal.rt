@@ -1,7 +1,7 @@
 // Numbered refusals of the requests by system and year: `of_` functions give the first that applies, or 0.
 ghost use mathlib.Core.Path.{_≡_};
-ghost use Rattle.reckoning.specs.ComputedRefusals.{outside, yearRefusal, qiRefusal};
-use crate::refusal_numbers::QI;
+ghost use Rattle.reckoning.specs.ComputedRefusals.{outside, yearRefusal, stepRefusal};
+use crate::refusal_numbers::STEP;
 use crate::refusal_numbers::SYSTEM;
 use crate::refusal_numbers::YEAR;
 
@@ -24,15 +24,16 @@ pub(crate) fn of_year(system: u32, year: u32) -> u8
     0
 }
 
-pub(crate) fn of_qi(system: u32, year: u32, i: u32) -> u8
-    ensures { λ r. ⌜ r ≡ qiRefusal system year i ⌝ }
+// Of a request for one of a year's steps, which are numbered from 0 to `most`.
+pub(crate) fn of_step(system: u32, year: u32, most: u32, i: u32) -> u8
+    ensures { λ r. ⌜ r ≡ stepRefusal most system year i ⌝ }
 {
     let refusal = of_year(system, year);
     if refusal != 0 {
         return refusal;
     }
-    if 23 < i {
-        return QI;
+    if most < i {
+        return STEP;
     }
     0
 }

@@ -16,6 +16,6 @@ pub const DAY: u8 = 7;
 
 pub const OUTPUT: u8 = 8;
 
-pub const QI: u8 = 9;
+pub const STEP: u8 = 9;
 
 pub const LEAP: u8 = 10;

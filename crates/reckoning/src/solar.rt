@@ -1,12 +1,15 @@
-// The solstice and the qi of one year.
+// The solstice of one year, and its equal steps.
 ghost use mathlib.Core.Path.{_≡_};
-ghost use Prim.Native.Nat.{_%_, _^_, _≤_, _<_};
-ghost use Rattle.reckoning.specs.Requests.{solsticeIn, qiIn};
-ghost use Rattle.reckoning.specs.WordBounds.{YearInRegister};
+ghost use Prim.Native.Nat.{_%_, _^_, _<_};
+ghost use Rattle.calendar.specs.Steps.{moment};
+ghost use Rattle.reckoning.specs.Requests.{solsticeIn, momentIn, stepAnswer};
+ghost use Rattle.reckoning.specs.WordBounds.{StepFits, YearInRegister};
+use crate::asked::Asked;
 use crate::closed_forms::register_day;
-use crate::data::Qi;
+use crate::data::Moment;
 use crate::data::Solstice;
 use calendar::data::Constants;
+use calendar::data::RegisterDay;
 
 // What is left of x after whole `by`s.
 fn rest(x: u64, by: u64) -> u32
@@ -29,17 +32,33 @@ pub(crate) fn solstice(c: Constants, n: u64) -> Solstice
     }
 }
 
-// Qi i of year n: its moment is reckoned in small units, so that nothing is rounded.
-pub(crate) fn qi(c: Constants, n: u64, i: u64) -> Qi
-    requires { ⌜ YearInRegister c n × (i ≤ 23) ⌝ }
-    ensures { λ r. ⌜ r ≡ qiIn c n i ⌝ }
+// Step i of year n, of `steps` equal ones, in units of which a part has `units`, so that nothing is rounded.
+fn step(c: Constants, steps: u64, units: u64, n: u64, i: u64) -> Moment
+    requires { ⌜ StepFits c steps units n i ⌝ }
+    ensures { λ r. ⌜ r ≡ momentIn c units (moment c steps units n i) ⌝ }
 {
-    let moment = n * c.year * c.units + i * (c.year * c.units / 24);
-    let parts = moment / c.units;
-    Qi {
+    let moment = n * c.year * units + i * (c.year * units / steps);
+    let parts = moment / units;
+    Moment {
         refusal: 0,
         day: register_day(c, parts / c.solar),
         parts: rest(parts, c.solar),
-        units: rest(moment, c.units),
+        units: rest(moment, units),
     }
+}
+
+// The answer to a request for one of a year's steps.
+pub(crate) fn answer(asked: Asked, steps: u64, units: u64, i: u32) -> Moment
+    requires { ⌜ (asked .refusal ≡ 0 → StepFits (asked .c) steps units (asked .n) i) ⌝ }
+    ensures { λ r. ⌜ r ≡ stepAnswer asked steps units i ⌝ }
+{
+    if asked.refusal != 0 {
+        return Moment {
+            refusal: asked.refusal,
+            day: RegisterDay(0),
+            parts: 0,
+            units: 0,
+        };
+    }
+    step(asked.c, steps, units, asked.n, i as u64)
 }

@@ -1,17 +1,9 @@
-use mathlib.Core.Path.{_≡_, subst, sym, ap, _∙_}
-use mathlib.Core.Bool.{false}
-use Rattle.reckoning.specs.ComputedRefusals.{outside}
-use Rattle.reckoning.specs.WordBounds.{ConstantsFit}
-use Rattle.reckoning.specs.Requests.{dateIn, dateOf}
-use Rattle.reckoning.proofs.ScopeInRegister.{constants-fit}
-use Rattle.reckoning.proofs.AnswerUnless.{picks-guantian, picks-jiyuan}
-use Rattle.reckoning.proofs.DateRequest.{date-answered}
+use Rattle.reckoning.specs.Requests.{noDate, dateIn, dateOf}
+use Rattle.reckoning.proofs.ScopeInRegister.{guantian-fits, jiyuan-fits}
+use Rattle.reckoning.proofs.AnswerUnless.{no-such-system, by-guantian, by-jiyuan}
 use borrow.Author.Needs.{needs}
 use Rattle.reckoning.proofs.date.Statement.{statement}
 use Rattle.reckoning.proofs.date.Tie as tie
-
-system-inside : (c : tie.Else1) → outside 1 2 (c .before .before .args .system) ≡ false
-system-inside c = sym (c .before .outside .ensures) ∙ c .if1 .left
 
 outside-requires : tie.Need-outside-requires
 outside-requires c κs = search needs
@@ -21,33 +13,46 @@ none-requires c κs = search needs
 
 returns : tie.Need-returns
 unfolding dateOf
-returns c = c .none .ensures ∙ simp (sym (c .before .before .outside .ensures) ∙ c .before .if1 .taken)
+returns c =
+    let tested = c .before .before in
+    let args = tested .before .args in
+    no-such-system (λ k. dateIn k (args .day .0)) noDate (args .system) (tested .outside .ensures) (c .before .if1 .taken) (c .none .ensures)
 
 guantian-requires : tie.Need-guantian-requires
 guantian-requires c κs = search needs
 
 of-day-requires : tie.Need-of-day-requires
-of-day-requires c κs = subst ConstantsFit (sym (c .guantian .ensures)) (constants-fit 1)
+of-day-requires c κs = search guantian-fits
 
 returns-2 : tie.Need-returns-2
+unfolding dateOf
 returns-2 c =
-    let inside = c .before .before .before in
-    let args = inside .before .before .args in
-    let picked = c .before .guantian .ensures ∙ sym (picks-guantian _ (c .before .before .if2 .taken)) in
-    c .of-day .ensures ∙ ap (λ k. dateIn k (args .day .0)) picked ∙ date-answered _ _ (system-inside inside)
+    let picked = c .before in
+    let inside = picked .before .before in
+    let tested = inside .before in
+    let args = tested .before .args in
+    by-guantian (λ k. dateIn k (args .day .0)) noDate (args .system) (tested .outside .ensures) (inside .if1 .left)
+    (c .of-day .ensures)
+    (picked .before .if2 .taken)
+    (picked .guantian .ensures)
 
 jiyuan-requires : tie.Need-jiyuan-requires
 jiyuan-requires c κs = search needs
 
 of-day-requires-2 : tie.Need-of-day-requires-2
-of-day-requires-2 c κs = subst ConstantsFit (sym (c .jiyuan .ensures)) (constants-fit 2)
+of-day-requires-2 c κs = search jiyuan-fits
 
 returns-3 : tie.Need-returns-3
+unfolding dateOf
 returns-3 c =
-    let inside = c .before .before .before in
-    let args = inside .before .before .args in
-    let picked = c .before .jiyuan .ensures ∙ sym (picks-jiyuan _ (c .before .before .if2 .left)) in
-    c .of-day2 .ensures ∙ ap (λ k. dateIn k (args .day .0)) picked ∙ date-answered _ _ (system-inside inside)
+    let picked = c .before in
+    let inside = picked .before .before in
+    let tested = inside .before in
+    let args = tested .before .args in
+    by-jiyuan (λ k. dateIn k (args .day .0)) noDate (args .system) (tested .outside .ensures) (inside .if1 .left)
+    (c .of-day2 .ensures)
+    (picked .before .if2 .left)
+    (picked .jiyuan .ensures)
 
 pub date-spec : {M : Type 1} → statement M
 date-spec =

@@ -1,0 +1,69 @@
+use Rattle.reckoning.specs.Requests.{noPentad, pentadIn, pentadInForce}
+use Rattle.reckoning.proofs.ScopeInRegister.{guantian-fits, jiyuan-fits}
+use Rattle.reckoning.proofs.AnswerUnless.{no-such-system, by-guantian, by-jiyuan}
+use borrow.Author.Needs.{needs}
+use Rattle.reckoning.proofs.pentad_in_force.Statement.{statement}
+use Rattle.reckoning.proofs.pentad_in_force.Tie as tie
+
+outside-requires : tie.Need-outside-requires
+outside-requires c κs = search needs
+
+none-requires : tie.Need-none-requires
+none-requires c κs = search needs
+
+returns : tie.Need-returns
+unfolding pentadInForce
+returns c =
+    let tested = c .before .before in
+    let args = tested .before .args in
+    no-such-system (λ k. pentadIn k (args .day .0)) noPentad (args .system) (tested .outside .ensures) (c .before .if1 .taken) (c .none .ensures)
+
+guantian-requires : tie.Need-guantian-requires
+guantian-requires c κs = search needs
+
+of-day-requires : tie.Need-of-day-requires
+of-day-requires c κs = search guantian-fits
+
+returns-2 : tie.Need-returns-2
+unfolding pentadInForce
+returns-2 c =
+    let picked = c .before in
+    let inside = picked .before .before in
+    let tested = inside .before in
+    let args = tested .before .args in
+    by-guantian (λ k. pentadIn k (args .day .0)) noPentad (args .system) (tested .outside .ensures) (inside .if1 .left)
+    (c .of-day .ensures)
+    (picked .before .if2 .taken)
+    (picked .guantian .ensures)
+
+jiyuan-requires : tie.Need-jiyuan-requires
+jiyuan-requires c κs = search needs
+
+of-day-requires-2 : tie.Need-of-day-requires-2
+of-day-requires-2 c κs = search jiyuan-fits
+
+returns-3 : tie.Need-returns-3
+unfolding pentadInForce
+returns-3 c =
+    let picked = c .before in
+    let inside = picked .before .before in
+    let tested = inside .before in
+    let args = tested .before .args in
+    by-jiyuan (λ k. pentadIn k (args .day .0)) noPentad (args .system) (tested .outside .ensures) (inside .if1 .left)
+    (c .of-day2 .ensures)
+    (picked .before .if2 .left)
+    (picked .jiyuan .ensures)
+
+pub pentad-in-force-spec : {M : Type 1} → statement M
+pentad-in-force-spec =
+    tie.close
+    (tie.spec
+    outside-requires
+    none-requires
+    returns
+    guantian-requires
+    of-day-requires
+    returns-2
+    jiyuan-requires
+    of-day-requires-2
+    returns-3)
