@@ -9,26 +9,22 @@ use lib.ListN.{length}
 use borrow.Author.Tests.{eq-eqb, ne-eqb}
 use Rattle.calendar.specs.SixtyDayName.{nameOf}
 use Rattle.reckoning.specs.declared.data.Days.{Days}
-use Rattle.reckoning.specs.declared.data.Qi.{Qi}
 use Rattle.reckoning.specs.declared.data.Sheet.{Sheet}
 use Rattle.reckoning.specs.declared.data.Solstice.{Solstice}
 use Rattle.reckoning.specs.declared.data.Year.{Year}
-use Rattle.reckoning.specs.Requests.{solsticeOf, qiOf, yearOf, sheetOf, daysOf}
+use Rattle.reckoning.specs.Requests.{solsticeOf, yearOf, sheetOf, daysOf}
 use Rattle.reckoning.specs.YearValue.{headIn, numberIn, leapIn}
 use Rattle.text.specs.Piece.{word, year, month, numbered, line, refusedLine, textsUpTo}
 use Rattle.text.specs.Put.{Put}
 use Rattle.text.specs.Wrote.{Wrote}
 use Rattle.text.proofs.Writing.{wrote-as, wrote-then, wrote-one-more}
 use Rattle.text.proofs.Putting.{Puts, put-wrote}
-use Rattle.pages.specs.Page.{yearLine, solsticeLine, qiLine, qiLines, solarLines, monthLine, monthLines, nextLine}
-use Rattle.pages.specs.Page.{lunarLines, nameAt, sheetNames, namesLine, qiAt, monthAt, yearLines, pageOf}
+use Rattle.pages.specs.declared.steps.Steps.the-variants.{Qi}
+use Rattle.pages.specs.StepLines.{stepLines}
+use Rattle.pages.specs.Page.{yearLine, solsticeLine, solarLines, monthLine, monthLines, nextLine}
+use Rattle.pages.specs.Page.{lunarLines, nameAt, sheetNames, namesLine, monthAt, yearLines, pageOf}
 
 -- A loop's texts, one more and all.
-pub wrote-qi-more : {b m a : List ℕ} {at p e : ℕ} {qi : Qi} (system n i : ℕ) → qi ≡ qiOf system n i
-    → Wrote b at (textsUpTo (qiAt system n) i) m p → Wrote m p (qiLine i qi) a e
-    → Wrote b at (textsUpTo (qiAt system n) (i + 1)) a e
-wrote-qi-more system n i is w v = wrote-one-more (qiAt system n) i w (wrote-as (ap (qiLine i) is) v)
-
 pub wrote-month-more : {b m a : List ℕ} {at p e : ℕ} (months : Year) (i : ℕ) → Wrote b at (textsUpTo (monthAt months) i) m p
     → Wrote m p (monthAt months i) a e → Wrote b at (textsUpTo (monthAt months) (i + 1)) a e
 wrote-month-more months i w v = wrote-one-more (monthAt months) i w v
@@ -43,11 +39,6 @@ pub wrote-name-more : {b m a : List ℕ} {start p e : ℕ} (sheet : Sheet) (coun
     → Wrote b start (textsUpTo (nameAt sheet) (i + 1)) a e
 wrote-name-more sheet count i w v room near more most =
     wrote-one-more (nameAt sheet) i w (put-wrote v (omega (arith, w .same-length)))
-
-pub wrote-qi-lines : {b a : List ℕ} {at e : ℕ} (system n i : ℕ) → i ≤ 24 → 24 ≤ i
-    → Wrote b at (textsUpTo (qiAt system n) i) a e → Wrote b at (qiLines system n) a e
-unfolding qiLines
-wrote-qi-lines system n i l h w = let all : i ≡ 24 = omega arith in wrote-as (ap (textsUpTo (qiAt system n)) all) w
 
 pub wrote-month-lines : {b a : List ℕ} {at e : ℕ} (months : Year) (count i : ℕ) → count ≡ months .count → i ≤ count → count ≤ i
     → Wrote b at (textsUpTo (monthAt months) i) a e → Wrote b at (monthLines months) a e
@@ -76,12 +67,6 @@ module _ {b a : List ℕ} {at e rooms : ℕ} where
   unfolding solsticeLine
   put-solstice s is w = rw is at w
 
-  pub put-qi : {name : ℕ} (i : ℕ) (qi : Qi) → name ≡ nameOf (qi .day .0)
-      → Puts b at rooms (line (113 ∷ 105 ∷ []) (i ∷ qi .day .0 ∷ name ∷ qi .parts ∷ qi .units ∷ [])) a e
-      → Puts b at rooms (qiLine i qi) a e
-  unfolding qiLine
-  put-qi i qi is w = rw is at w
-
   pub put-month-line : (place number leap head name days : ℕ)
       → Puts b at rooms
       (numbered (109 ∷ 111 ∷ 110 ∷ 116 ∷ 104 ∷ []) place ++ (month number leap ++ line [] (head ∷ name ∷ days ∷ []))) a e
@@ -105,7 +90,7 @@ wrote-month-at months i is w = rw is at w
 -- The lines of the sun, of the moon, and of the names.
 module _ {b m a : List ℕ} {at p e : ℕ} where
   pub wrote-solar : {solstice : Solstice} (system n : ℕ) → solstice ≡ solsticeOf system n
-      → Wrote b at (solsticeLine solstice) m p → Wrote m p (qiLines system n) a e → Wrote b at (solarLines system n) a e
+      → Wrote b at (solsticeLine solstice) m p → Wrote m p (stepLines Qi 24 system n) a e → Wrote b at (solarLines system n) a e
   unfolding solarLines
   wrote-solar system n is w v = wrote-then (wrote-as (ap solsticeLine is) w) v
 

@@ -5,13 +5,14 @@ use mathlib.Core.List.{List, [], _∷_, _++_}
 use lib.Dec.{eqb}
 use lib.ListN.{getD}
 use Rattle.calendar.specs.SixtyDayName.{nameOf}
-use Rattle.reckoning.specs.declared.data.Qi.{Qi}
 use Rattle.reckoning.specs.declared.data.Sheet.{Sheet}
 use Rattle.reckoning.specs.declared.data.Solstice.{Solstice}
 use Rattle.reckoning.specs.declared.data.Year.{Year}
-use Rattle.reckoning.specs.Requests.{solsticeOf, qiOf, yearOf, sheetOf, daysOf}
+use Rattle.reckoning.specs.Requests.{solsticeOf, yearOf, sheetOf, daysOf}
 use Rattle.reckoning.specs.YearValue.{headIn, numberIn, leapIn}
 use Rattle.text.specs.Piece.{word, field, year, month, numbered, line, refusedLine, textsUpTo}
+use Rattle.pages.specs.declared.steps.Steps.the-variants.{Qi}
+use Rattle.pages.specs.StepLines.{stepLines}
 
 -- "year ", then letter and year, how many months and days.
 unfoldable pub yearLine : ℕ → ℕ → ℕ → ℕ → List ℕ
@@ -22,20 +23,9 @@ unfoldable pub solsticeLine : Solstice → List ℕ
 solsticeLine s =
     line (115 ∷ 111 ∷ 108 ∷ 115 ∷ 116 ∷ 105 ∷ 99 ∷ 101 ∷ []) (s .day .0 ∷ nameOf (s .day .0) ∷ s .remainder ∷ [])
 
--- "qi", number from 0, day with its name, parts, small units.
-unfoldable pub qiLine : ℕ → Qi → List ℕ
-qiLine i qi = line (113 ∷ 105 ∷ []) (i ∷ qi .day .0 ∷ nameOf (qi .day .0) ∷ qi .parts ∷ qi .units ∷ [])
-
--- Qi i of a year.
-abbrev pub qiAt : ℕ → ℕ → ℕ → List ℕ
-qiAt system year i = qiLine i (qiOf system year i)
-
-unfoldable pub qiLines : ℕ → ℕ → List ℕ
-qiLines system year = textsUpTo (qiAt system year) 24
-
 -- The solstice and the qi.
 unfoldable pub solarLines : ℕ → ℕ → List ℕ
-solarLines system year = solsticeLine (solsticeOf system year) ++ qiLines system year
+solarLines system year = solsticeLine (solsticeOf system year) ++ stepLines Qi 24 system year
 
 -- "month", place from 1, number, '*' directly after it if leap, head, name of the head, length.
 unfoldable pub monthLine : ℕ → ℕ → ℕ → ℕ → ℕ → ℕ → List ℕ

@@ -4,7 +4,7 @@ ghost use lib.ListN.{length};
 ghost use Rattle.text.specs.Wrote.{Wrote};
 ghost use Rattle.pages.specs.Printable.{Printable};
 ghost use Rattle.pages.specs.Page.{monthLine, monthAt, monthLines, nextLine, lunarLines};
-use crate::solar::name;
+use crate::names::name;
 use reckoning::data::Year;
 
 fn month_line(

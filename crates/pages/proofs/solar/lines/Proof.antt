@@ -10,8 +10,8 @@ solstice-requires c κs = search needs
 solstice-line-requires : tie.Need-solstice-line-requires
 solstice-line-requires c κs = search needs
 
-qi-lines-requires : tie.Need-qi-lines-requires
-qi-lines-requires c κs = search needs
+lines-requires : tie.Need-lines-requires
+lines-requires c κs = search needs
 
 same-length : tie.Need-same-length
 same-length c = search needs
@@ -20,6 +20,4 @@ returns : tie.Need-returns
 returns c = (search wrote-solar, omega arith)
 
 pub lines-spec : {M : Type 1} → statement M
-lines-spec =
-    tie.close
-    (tie.spec solstice-requires solstice-line-requires qi-lines-requires same-length returns)
+lines-spec = tie.close (tie.spec solstice-requires solstice-line-requires lines-requires same-length returns)

@@ -1,7 +1,7 @@
 use mathlib.Core.Path.{ap, _∙_}
 use borrow.Author.Needs.{needs}
-use Rattle.pages.proofs.solar.name.Statement.{statement}
-use Rattle.pages.proofs.solar.name.Tie as tie
+use Rattle.pages.proofs.names.name.Statement.{statement}
+use Rattle.pages.proofs.names.name.Tie as tie
 
 day-name-requires : tie.Need-day-name-requires
 day-name-requires c κs = search needs
