@@ -12,32 +12,32 @@ use Rattle.arguments.specs.Number.{most}
 use Rattle.text.specs.Piece.{textsUpTo}
 use Rattle.almanac_run.specs.declared.range.Filled.{Filled}
 use Rattle.almanac_run.specs.declared.range.Request.{Request}
-use Rattle.almanac_run.specs.Pages.{requestedPage, yearAfter, pagesOf, FilledWith}
+use Rattle.almanac_run.specs.Pages.{requestedPage, numberAfter, pagesOf, FilledWith}
 
--- So many pages are there; the year after them is next.
-pub record Filling (request : Request) (first : ℕ) (before out : List ℕ) (pages year end : ℕ) : Type 0 where
+-- So many pages are there; the number after them is next.
+pub record Filling (request : Request) (first : ℕ) (before out : List ℕ) (pages next end : ℕ) : Type 0 where
   pub text : Wrote before 0 (pagesOf request first pages) out end
-  pub year-after : year ≡ yearAfter first pages
+  pub next-is : next ≡ numberAfter first pages
   pub each-had-room : (n : ℕ) → n < pages → length (pagesOf request first n) + 8192 ≤ length before
 
 pub filling-starts : (request : Request) (first : ℕ) (before : List ℕ) → first ≤ most → Filling request first before before 0 first 0
 filling-starts request first before h =
     record {
-      text = wrote-no-texts (λ i. requestedPage request (yearAfter first i)) (omega arith);
-      year-after = omega arith;
+      text = wrote-no-texts (λ i. requestedPage request (numberAfter first i)) (omega arith);
+      next-is = omega arith;
       each-had-room = λ n l. absurd (omega arith);
     }
 
-module _ {request : Request} {first : ℕ} {before out : List ℕ} {pages year end : ℕ} (f : Filling request first before out pages year end) where
-  pub filling-more : {out′ : List ℕ} {year′ end′ : ℕ}
-      → Wrote out end (requestedPage request year) out′ end′
+module _ {request : Request} {first : ℕ} {before out : List ℕ} {pages next end : ℕ} (f : Filling request first before out pages next end) where
+  pub filling-more : {out′ : List ℕ} {next′ end′ : ℕ}
+      → Wrote out end (requestedPage request next) out′ end′
       → 8192 ≤ length out - end
-      → year′ ≡ min most (year + 1)
-      → Filling request first before out′ (pages + 1) year′ end′
+      → next′ ≡ min most (next + 1)
+      → Filling request first before out′ (pages + 1) next′ end′
   filling-more w room e =
       record {
-        text = wrote-one-more (λ i. requestedPage request (yearAfter first i)) pages (f .text) (wrote-as (ap (requestedPage request) (f .year-after)) w);
-        year-after = omega (arith, f .year-after);
+        text = wrote-one-more (λ i. requestedPage request (numberAfter first i)) pages (f .text) (wrote-as (ap (requestedPage request) (f .next-is)) w);
+        next-is = omega (arith, f .next-is);
         each-had-room = λ n l.
             by-order n pages
             (λ before-it. f .each-had-room n before-it)
@@ -48,22 +48,22 @@ module _ {request : Request} {first : ℕ} {before out : List ℕ} {pages year e
 
   -- All are there, or the buffer is full.
   pub filled-all : (count : ℕ) → pages ≤ count → count ≤ pages
-      → FilledWith request first count before out (record { pages = pages; year = year; end = end })
+      → FilledWith request first count before out (record { pages = pages; next = next; end = end })
   filled-all count l h =
       record {
         text = f .text;
-        year-after = f .year-after;
+        next-is = f .next-is;
         no-more = l;
         each-had-room = f .each-had-room;
         all-or-full = inl (omega arith);
       }
 
   pub filled-full : (count : ℕ) → pages ≤ count → length out - end < 8192
-      → FilledWith request first count before out (record { pages = pages; year = year; end = end })
+      → FilledWith request first count before out (record { pages = pages; next = next; end = end })
   filled-full count l full =
       record {
         text = f .text;
-        year-after = f .year-after;
+        next-is = f .next-is;
         no-more = l;
         each-had-room = f .each-had-room;
         all-or-full = inr (omega (arith, f .text .same-length));
@@ -81,19 +81,19 @@ some-page request first count before after r f some room =
     let nothing : length (pagesOf request first (r .pages)) ≡ 0 = ap (λ n. length (pagesOf request first n)) none in
     ⊎-elim (λ e. omega arith) (λ full. omega (arith, f .text .ends)) (f .all-or-full))
 
--- A turn on a buffer with room for a page leaves fewer years, and goes on with the year after those written.
-pub record Going (first count : ℕ) (year left : ℕ) : Type 0 where
+-- A turn on a buffer with room for a page leaves fewer numbers, and goes on with the one after those written.
+pub record Going (first count : ℕ) (next left : ℕ) : Type 0 where
   pub no-more : left ≤ count
-  pub year-is : year ≡ yearAfter first (count - left)
+  pub next-is : next ≡ numberAfter first (count - left)
 
-module _ {request : Request} {year left : ℕ} {before after : List ℕ} {r : Filled} (f : FilledWith request year left before after r)
+module _ {request : Request} {next left : ℕ} {before after : List ℕ} {r : Filled} (f : FilledWith request next left before after r)
     (some : 0 < left) where
   pub fewer : 8192 ≤ length before → left - r .pages < left
   fewer room = omega (arith, some-page _ _ _ _ _ _ f some room, f .no-more)
 
-  pub goes-on : {first count : ℕ} → Going first count year left → Going first count (r .year) (left - r .pages)
+  pub goes-on : {first count : ℕ} → Going first count next left → Going first count (r .next) (left - r .pages)
   goes-on g =
       record {
         no-more = omega (arith, g .no-more);
-        year-is = omega (arith, f .year-after, f .no-more, g .no-more, g .year-is);
+        next-is = omega (arith, f .next-is, f .no-more, g .no-more, g .next-is);
       }

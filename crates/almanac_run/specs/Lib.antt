@@ -1,3 +1,3 @@
 -- What the run of the almanac promises.
--- The pages of several years.
+-- What is printed of the numbers of a range.
 pub mod Pages

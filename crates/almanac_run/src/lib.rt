@@ -1,13 +1,15 @@
-// The run of the program almanac: `almanac year SYSTEM YEAR [LAST]` and `almanac compare FIRST SECOND YEAR [LAST]`.
+// The run of the program almanac: `almanac year SYSTEM YEAR [LAST]`, `almanac pentads SYSTEM YEAR [LAST]`,
+// `almanac pentad SYSTEM DAY [LAST]` and `almanac compare FIRST SECOND YEAR [LAST]`.
 ghost use mathlib.Core.Path.{_≡_};
 ghost use Rattle.process.specs.Exit.{misused, AnsweredOrFailed, Ended};
 use arguments::number;
 use arguments::number::Argument;
 use arguments::options;
 use arguments::options::Wish;
-use arguments::years;
-use arguments::years::Years;
+use arguments::ranges;
+use arguments::ranges::Range;
 use process::exit;
+use range::Page;
 use range::Request;
 
 mod range;
@@ -20,36 +22,36 @@ fn number_at(i: usize) -> Argument {
     number::read(&text[..n])
 }
 
-// The years from argument i to argument j.
-fn years_at(i: usize, j: usize) -> Years {
+// The numbers from argument i to argument j.
+fn range_at(i: usize, j: usize) -> Range {
     let mut first = [0u8; 131072];
     let mut last = [0u8; 131072];
     let n = os::arg(i, &mut first);
     let m = os::arg(j, &mut last);
-    years::read(&first[..n], &last[..m])
+    ranges::read(&first[..n], &last[..m])
 }
 
 fn misuse() -> u32
     ensures { λ r. ⌜ r ≡ misused ⌝ }
 {
     exit::misuse(
-        b"usage: almanac year SYSTEM YEAR [LAST] | almanac compare FIRST SECOND YEAR [LAST] (see almanac --help)\n",
+        b"usage: almanac year SYSTEM YEAR [LAST] | almanac pentads SYSTEM YEAR [LAST] | almanac pentad SYSTEM DAY [LAST] | almanac compare FIRST SECOND YEAR [LAST] (see almanac --help)\n",
     )
 }
 
-// Writes what is asked of each year from argument i to the last argument, which is argument i again where LAST is left
+// Writes what is asked of each number from argument i to the last argument, which is argument i again where LAST is left
 // out. All arguments are read before anything is written.
-fn write_years(request: Request, i: usize, last: usize) -> u32
+fn write_range(request: Request, i: usize, last: usize) -> u32
     ensures { λ r. ⌜ Ended r ⌝ }
 {
-    let Years::From(first, years) = years_at(i, last) else {
+    let Range::From(first, count) = range_at(i, last) else {
         return misuse();
     };
-    range::pages(request, first, years)
+    range::pages(request, first, count)
 }
 
 // Of `count` words on the command line the first is the program's name, and the second what it is asked.
-fn year_pages(count: usize) -> u32
+fn system_pages(page: Page, count: usize) -> u32
     ensures { λ r. ⌜ Ended r ⌝ }
 {
     if count < 4 {
@@ -61,7 +63,7 @@ fn year_pages(count: usize) -> u32
     let Argument::Number(system) = number_at(2) else {
         return misuse();
     };
-    write_years(Request::Year(system), 3, count - 1)
+    write_range(Request::BySystem(page, system), 3, count - 1)
 }
 
 fn comparisons(count: usize) -> u32
@@ -79,23 +81,30 @@ fn comparisons(count: usize) -> u32
     let Argument::Number(second) = number_at(3) else {
         return misuse();
     };
-    write_years(Request::Compare(first, second), 4, count - 1)
+    write_range(Request::Compare(first, second), 4, count - 1)
 }
 
 fn help() -> u32
     ensures { λ r. ⌜ AnsweredOrFailed r ⌝ }
 {
     let text = b"almanac year SYSTEM YEAR [LAST]\n\
+        almanac pentads SYSTEM YEAR [LAST]\n\
+        almanac pentad SYSTEM DAY [LAST]\n\
         almanac compare FIRST SECOND YEAR [LAST]\n\
         almanac --help | --version\n\
         \n\
         year prints the page of YEAR, or of each year from YEAR to LAST, by the calendar\n\
         with the number SYSTEM: 1 is Guantian, 2 is Jiyuan. A year begins with month 11,\n\
         late in the common year before it.\n\
+        pentads prints the 72 pentads of YEAR, or of each year from YEAR to LAST: the\n\
+        steps of some five days that divide the year from its winter solstice on.\n\
+        pentad prints the pentad in force at the end of the register day DAY, or of each\n\
+        day from DAY to LAST, with its year, which runs from solstice to solstice.\n\
         compare prints where the months of YEAR, or of each year from YEAR to LAST,\n\
         differ between the calendars with the numbers FIRST and SECOND.\n\
-        In place of a page stands `refused 4` if there is no such calendar, and\n\
-        `refused 5` if the year is outside 1 to 3000.\n\
+        In place of a page stands `refused 4` if there is no such calendar, `refused 5`\n\
+        if the year is outside 1 to 3000, and `refused 7` if the day is outside these\n\
+        years as counted from solstice to solstice.\n\
         The manual page almanac(1) tells the lines and the exit status.\n";
     exit::reply(text, b"almanac: standard output")
 }
@@ -123,7 +132,13 @@ pub extern "C" fn almanac_run(version: &[u8]) -> u32
         return reply(options::read(&verb[..n]), version);
     }
     if check::same(&verb[..n], b"year") {
-        return year_pages(count);
+        return system_pages(Page::Year, count);
+    }
+    if check::same(&verb[..n], b"pentads") {
+        return system_pages(Page::Pentads, count);
+    }
+    if check::same(&verb[..n], b"pentad") {
+        return system_pages(Page::Pentad, count);
     }
     if check::same(&verb[..n], b"compare") {
         return comparisons(count);

@@ -3,5 +3,5 @@
 pub mod Digits
 -- Numbers of any length, place by place.
 pub mod Places
--- The years of a range, by what its ends are.
-pub mod Ranges
+-- The numbers of a range, by what its ends are.
+pub mod RangeCases

@@ -11,7 +11,7 @@ use Rattle.calendar.proofs.Cases.{both}
 use Rattle.calendar.proofs.Rising.{by-order}
 use Rattle.text.specs.Decimal.{withDigits, numberOf}
 use Rattle.arguments.specs.Number.{isDigit, allDigits}
-use Rattle.arguments.specs.Years.{longest, digitAt, countOf}
+use Rattle.arguments.specs.Ranges.{longest, digitAt, countOf}
 use Rattle.arguments.proofs.Digits.{a-digit}
 
 -- one digit more after the last
@@ -69,7 +69,7 @@ module _ (text : List ℕ) where
       (λ l. omega (arith, the-digit place l, digit-byte place e l))
       (λ l. omega (arith, no-digit place l))
 
--- The last year is so far ahead of the first, both without their digits below a place.
+-- The last number is so far ahead of the first, both without their digits below a place.
 pub record Ahead (first last : List ℕ) (ahead place : ℕ) : Type 0 where
   pub not-behind : above first place ≤ above last place
   pub is : ahead ≡ min longest (above last place - above first place)

@@ -3,5 +3,5 @@
 pub mod Options
 -- Decimal numbers.
 pub mod Number
--- How many years a range has.
-pub mod Years
+-- How many numbers a range has.
+pub mod Ranges

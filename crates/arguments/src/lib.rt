@@ -1,4 +1,4 @@
-// Arguments read from their text: options, a decimal number, the years of a range.
+// Arguments read from their text: options, a decimal number, the numbers of a range.
 pub mod number;
 pub mod options;
-pub mod years;
+pub mod ranges;

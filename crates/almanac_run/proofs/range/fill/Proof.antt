@@ -6,11 +6,11 @@ use Rattle.almanac_run.proofs.range.fill.Statement.{statement}
 use Rattle.almanac_run.proofs.range.fill.Tie as tie
 
 abbrev Inv-loop : tie.InvT-loop
-Inv-loop out₀ request first count pages₀ year₀ end₀ out pages year end =
-    (pages ≤ count) × Filling request first out₀ out pages year end
+Inv-loop out₀ request first count pages₀ next₀ end₀ out pages next end =
+    (pages ≤ count) × Filling request first out₀ out pages next end
 
 abbrev μ-loop : tie.MeasureT-loop
-μ-loop out₀ request first count pages₀ year₀ end₀ out pages year end = count - pages
+μ-loop out₀ request first count pages₀ next₀ end₀ out pages next end = count - pages
 
 loop-holds : tie.Need-loop-holds Inv-loop μ-loop
 loop-holds c = (omega arith, filling-starts _ _ _ (omega arith))
@@ -26,11 +26,11 @@ returns c =
     let inv = c .before .before .loop .inv in
     filled-full (inv .1) _ (inv .0) (c .if1 .taken)
 
-page-requires : tie.Need-page-requires Inv-loop μ-loop
-page-requires c κs = search needs
+requested-page-requires : tie.Need-requested-page-requires Inv-loop μ-loop
+requested-page-requires c κs = search needs
 
-next-year-requires : tie.Need-next-year-requires Inv-loop μ-loop
-next-year-requires c κs = search needs
+number-after-requires : tie.Need-number-after-requires Inv-loop μ-loop
+number-after-requires c κs = search needs
 
 add-pages : tie.Need-add-pages Inv-loop μ-loop
 add-pages c = omega arith
@@ -42,7 +42,7 @@ loop-again : tie.Need-loop-again Inv-loop μ-loop
 loop-again c =
     let put = c .before .before .before in
     let turn = put .before .before .before .before in
-    (omega arith, filling-more (turn .loop .inv .1) (put .page .ensures) (put .before .before .if1 .left) (c .next-year .ensures))
+    (omega arith, filling-more (turn .loop .inv .1) (put .requested-page .ensures) (put .before .before .if1 .left) (c .number-after .ensures))
 
 same-length-2 : tie.Need-same-length-2 Inv-loop μ-loop
 same-length-2 c = search needs
@@ -60,8 +60,8 @@ fill-spec =
     sub-if1
     same-length
     returns
-    page-requires
-    next-year-requires
+    requested-page-requires
+    number-after-requires
     add-pages
     loop-less
     loop-again

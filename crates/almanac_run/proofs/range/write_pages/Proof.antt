@@ -9,14 +9,14 @@ use Rattle.almanac_run.proofs.range.write_pages.Statement.{statement}
 use Rattle.almanac_run.proofs.range.write_pages.Tie as tie
 
 abbrev Inv-loop : tie.InvT-loop
-Inv-loop out₀ request first count year₀ left₀ t9 out year left =
-    (length out ≡ length out₀) × (8192 ≤ length out) × Going first count year left
+Inv-loop out₀ request first count next₀ left₀ t9 out next left =
+    (length out ≡ length out₀) × (8192 ≤ length out) × Going first count next left
 
 abbrev μ-loop : tie.MeasureT-loop
-μ-loop out₀ request first count year₀ left₀ t9 out year left = left
+μ-loop out₀ request first count next₀ left₀ t9 out next left = left
 
 loop-holds : tie.Need-loop-holds Inv-loop μ-loop
-loop-holds c = (refl, omega arith, record { no-more = omega arith; year-is = omega arith })
+loop-holds c = (refl, omega arith, record { no-more = omega arith; next-is = omega arith })
 
 fill-requires : tie.Need-fill-requires Inv-loop μ-loop
 fill-requires c κs = search needs

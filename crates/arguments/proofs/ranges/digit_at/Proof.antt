@@ -2,8 +2,8 @@ use mathlib.Core.Path.{sym}
 use native.Mathlib.Omega.{arith}
 use borrow.Author.Needs.{needs}
 use Rattle.arguments.proofs.Places.{no-digit, the-digit, digit-byte}
-use Rattle.arguments.proofs.years.digit_at.Statement.{statement}
-use Rattle.arguments.proofs.years.digit_at.Tie as tie
+use Rattle.arguments.proofs.ranges.digit_at.Statement.{statement}
+use Rattle.arguments.proofs.ranges.digit_at.Tie as tie
 
 returns : tie.Need-returns
 returns c = let start = c .before in (sym (no-digit (start .args .text .now) (start .args .place) (omega arith)), omega arith)

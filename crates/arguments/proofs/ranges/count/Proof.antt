@@ -2,8 +2,8 @@ use mathlib.Core.Path.{_∙_}
 use native.Mathlib.Omega.{arith}
 use borrow.Author.Needs.{needs}
 use Rattle.arguments.proofs.Places.{Ahead, ahead-starts, ahead-next, ahead-stops, ahead-ends}
-use Rattle.arguments.proofs.years.count.Statement.{statement}
-use Rattle.arguments.proofs.years.count.Tie as tie
+use Rattle.arguments.proofs.ranges.count.Statement.{statement}
+use Rattle.arguments.proofs.ranges.count.Tie as tie
 
 abbrev Inv-loop : tie.InvT-loop
 Inv-loop first last ahead₀ place₀ ahead place = Ahead first last ahead place

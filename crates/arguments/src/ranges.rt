@@ -1,16 +1,16 @@
-// The years of a range, by the texts of its first and its last: digit by digit, so that they may have any length.
+// The numbers of a range, by the texts of its first and its last: digit by digit, so that they may have any length.
 ghost use mathlib.Core.Path.{_≡_};
 ghost use mathlib.Core.Bool.{true};
 ghost use Prim.Native.Nat.{_+_, _≤_, min, max};
 ghost use Rattle.arguments.specs.Number.{allDigits};
-ghost use Rattle.arguments.specs.Years.{longest, digitAt, countOf, yearsOf};
+ghost use Rattle.arguments.specs.Ranges.{longest, digitAt, countOf, rangeOf};
 use crate::number;
 use crate::number::Argument;
 
 const LONGEST: u64 = 1000000000000000000;
 
-// The first year, as a number is told, and how many there are; or no range.
-pub enum Years {
+// The first, as a number is told, and how many there are; or no range.
+pub enum Range {
     From(u32, u64),
     Other,
 }
@@ -21,7 +21,7 @@ fn longer(a: usize, b: usize) -> usize
     if a < b { b } else { a }
 }
 
-// A count of years, at most the longest that is told.
+// A count, at most the longest that is told.
 fn capped(n: u64) -> u64
     ensures { λ r. ⌜ r ≡ min longest n ⌝ }
 {
@@ -39,7 +39,7 @@ fn digit_at(text: &[u8], place: usize) -> u8
     text[i] - 48
 }
 
-// From the highest place down, how far the last year is ahead of the first. Once it is behind, it stays behind: the
+// From the highest place down, how far the last number is ahead of the first. Once it is behind, it stays behind: the
 // places below make up less than one.
 fn count(first: &[u8], last: &[u8]) -> u64
     requires { ⌜ (allDigits (now first) ≡ true) × (allDigits (now last) ≡ true) ⌝ }
@@ -60,14 +60,14 @@ fn count(first: &[u8], last: &[u8]) -> u64
     capped(ahead + 1)
 }
 
-pub fn read(first: &[u8], last: &[u8]) -> Years
-    ensures { λ r. ⌜ r ≡ yearsOf (now (first .entry)) (now (last .entry)) ⌝ }
+pub fn read(first: &[u8], last: &[u8]) -> Range
+    ensures { λ r. ⌜ r ≡ rangeOf (now (first .entry)) (now (last .entry)) ⌝ }
 {
-    let Argument::Number(year) = number::read(first) else {
-        return Years::Other;
+    let Argument::Number(start) = number::read(first) else {
+        return Range::Other;
     };
     let Argument::Number(_) = number::read(last) else {
-        return Years::Other;
+        return Range::Other;
     };
-    Years::From(year, count(first, last))
+    Range::From(start, count(first, last))
 }

@@ -1,14 +1,14 @@
 use mathlib.Core.Path.{sym, _∙_}
 use borrow.Author.Needs.{needs}
-use Rattle.arguments.proofs.Ranges.{no-first, no-last, range-digits, a-range}
-use Rattle.arguments.proofs.years.read.Statement.{statement}
-use Rattle.arguments.proofs.years.read.Tie as tie
+use Rattle.arguments.proofs.RangeCases.{no-first, no-last, range-digits, a-range}
+use Rattle.arguments.proofs.ranges.read.Statement.{statement}
+use Rattle.arguments.proofs.ranges.read.Tie as tie
 
 read-requires : tie.Need-read-requires
 read-requires c κs = search needs
 
-enum-known-year : tie.Need-enum-known-year
-enum-known-year c = search needs
+enum-known-start : tie.Need-enum-known-start
+enum-known-start c = search needs
 
 enum-told : tie.Need-enum-told
 enum-told c = search needs
@@ -30,16 +30,16 @@ returns-2 c = no-last _ _ (sym (c .before .before .read2 .ensures) ∙ c .enum-t
 
 count-requires : tie.Need-count-requires
 count-requires c κs =
-    let year = c .before .before .before .before in
-    let first-is = sym (year .before .before .read .ensures) ∙ year .year .given .1 in
+    let start = c .before .before .before .before in
+    let first-is = sym (start .before .before .read .ensures) ∙ start .start .given .1 in
     let last-is = sym (c .before .before .read2 .ensures) ∙ c .enum-told2 .given .1 in
     range-digits _ _ _ _ first-is last-is
 
 returns-3 : tie.Need-returns-3
 returns-3 c =
     let last = c .before in
-    let year = last .before .before .before .before in
-    let first-is = sym (year .before .before .read .ensures) ∙ year .year .given .1 in
+    let start = last .before .before .before .before in
+    let first-is = sym (start .before .before .read .ensures) ∙ start .start .given .1 in
     let last-is = sym (last .before .before .read2 .ensures) ∙ last .enum-told2 .given .1 in
     a-range _ _ _ _ first-is last-is (c .count .result) (c .count .ensures)
 
@@ -48,7 +48,7 @@ read-spec =
     tie.close
     (tie.spec
     read-requires
-    enum-known-year
+    enum-known-start
     enum-told
     returns
     read-requires-2
