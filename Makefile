@@ -22,7 +22,7 @@ test_tools = build/independent build/store_check build/null_check build/builders
 bench_tools = build/bench build/c_program build/c_compare
 # The longest first, so that two at a time end together.
 tests = tests/mixups.sh tests/program.sh tests/every_day.sh tests/every_year.sh tests/pipes.sh tests/damaged.sh \
-        tests/every_comparison.sh tests/faults.sh tests/cases.sh tests/descriptors.sh tests/arguments.sh \
+        tests/every_comparison.sh tests/every_pentad.sh tests/faults.sh tests/cases.sh tests/descriptors.sh tests/arguments.sh \
         tests/manual.sh tests/install.sh tests/shared.sh tests/shared.py tests/header.sh tests/host.sh \
         build/null_check build/builders build/incident
 crates := crates.txt $(shell find crates -name must-fail -prune -o -type f -print)

@@ -6,13 +6,6 @@ name=every_comparison request=compare
 . tests/run.bash
 . tests/requests.bash
 
-# The almanac must answer what is written out here, whatever the independent program answers.
-written() {
-    cat > "$scratch/expected"
-    run build/almanac compare "$@"
-    told "compare $*, as written out" 0 "$scratch/expected" ''
-}
-
 # Leap marks that differ, heads that differ, a month that one system lacks. A number that differs alone is in no year from
 # 1 to 3000, so that no test here can tell whether it is looked at: the proof does (must-fail number_not_compared).
 written 1 2 1162 << 'END'

@@ -1,5 +1,5 @@
 # Sourced after run.bash by tests of the almanac's requests. The test sets `request` to the word for its request. Every
-# function takes the systems, and `same` then the years.
+# function takes the systems, and `same` and `written` then the years or the days.
 
 # A number of so many digits. Linux takes no argument of more than 131071.
 sevens() {
@@ -14,6 +14,13 @@ same() {
     build/independent "${request:?}" "$@" > "$scratch/expected"
     run build/almanac "$request" "$@"
     told "$request $*" 0 "$scratch/expected" ''
+}
+
+# The almanac must answer what is written out on standard input, whatever the independent program answers.
+written() {
+    cat > "$scratch/expected"
+    run build/almanac "${request:?}" "$@"
+    told "$request $*, as written out" 0 "$scratch/expected" ''
 }
 
 # Years just outside, and years that would come out right if they were cut to 16, 32 or 64 bits.
@@ -53,7 +60,7 @@ odd_ranges() {
     same "$@" 18446744073709551617 00018446744073709551614
 }
 
-# Years of many thousand digits.
+# Years or days of many thousand digits.
 long_years() {
     local digits
     digits=$(sevens 60000)
@@ -66,12 +73,14 @@ long_years() {
     same "$@" "${digits}1" "${digits}2"
 }
 
-# Ranges of more years than 32 and 64 bits count: a refused line for each, as far as is read.
+# Ranges of more years than 32 and 64 bits count: a refused line for each, as far as is read. They begin with the first
+# year past the others and would end two years after it if they were cut. A test of days sets its own.
+past=3001 past_refusal=5 endless=(4294970299 18446744073709554619)
 endless_ranges() {
     local last came
-    for last in 4294970299 18446744073709554619; do
-        came=$({ build/almanac "$request" "$@" 3001 "$last" 2> "$scratch/error" || true; } |
+    for last in "${endless[@]}"; do
+        came=$({ build/almanac "$request" "$@" "$past" "$last" 2> "$scratch/error" || true; } |
             head -n 100000 | uniq -c | tr -s ' ')
-        [ "$came" = ' 100000 refused 5' ] || fail "$request $* 3001 $last: $came"
+        [ "$came" = " 100000 refused $past_refusal" ] || fail "$request $* $past $last: $came"
     done
 }

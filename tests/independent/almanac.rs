@@ -1,7 +1,7 @@
 //! The page of a year: solstice, qi, months and day names.
 
-use crate::lines::month_text;
-use crate::reckoning::{name_of, Month, Qi, Table, Tables};
+use crate::lines::{moment_line, month_text};
+use crate::reckoning::{name_of, Month, Table, Tables};
 use crate::requests::{system_asked, year_asked, Answer, Number};
 
 /// A wrong system is refused before a wrong year.
@@ -17,16 +17,12 @@ fn accepted_page(table: &Table, number: i128) -> Vec<String> {
     let mut lines = vec![format!("year {} {} {} {}", letter, number, months, year.length())];
     let day = year.solstice_day;
     lines.push(format!("solstice {} {} {}", day, name_of(day), year.solstice_remainder));
-    lines.extend(year.qi.iter().enumerate().map(qi_line));
+    lines.extend(year.qi.iter().enumerate().map(|(i, qi)| moment_line("qi", i, qi)));
     lines.extend(year.months.iter().enumerate().map(month_line));
     lines.push(format!("next {}", year.next_head));
     let names: Vec<String> = (year.head..year.next_head).map(|day| name_of(day).to_string()).collect();
     lines.push(format!("names {}", names.join(" ")));
     lines
-}
-
-fn qi_line((i, qi): (usize, &Qi)) -> String {
-    format!("qi {} {} {} {} {}", i, qi.day, name_of(qi.day), qi.parts, qi.small_units)
 }
 
 fn month_line((i, month): (usize, &Month)) -> String {

@@ -3,7 +3,11 @@
 
 use crate::citation::{answer, store, Refusal};
 use crate::lines::lines;
-use crate::reckoning::{name_of, Month, Tables, System, Table, Year, FIRST_YEAR, LAST_YEAR};
+use crate::pentads::{in_force_line, page, Pentads};
+use crate::reckoning::{
+    name_of, Moment, Month, Tables, System, Table, Year, FIRST_YEAR, LAST_YEAR,
+};
+use crate::requests::{Answer, Number};
 use crate::streams::{citation_of, leap_marks};
 
 pub struct Checks {
@@ -30,6 +34,8 @@ pub fn run(tables: &Tables) -> Checks {
     examples(tables, &mut checks);
     days_with_qi_and_moon(tables, &mut checks);
     told_months(tables, &mut checks);
+    pages_of_pentads(&mut checks);
+    pentads_in_force(&mut checks);
     for system in 1..=2 {
         let table = tables.table(system).unwrap();
         facts(table, &mut checks);
@@ -39,6 +45,8 @@ pub fn run(tables: &Tables) -> Checks {
         every_stored_form(tables, table, &mut checks);
         every_leap_mark(tables, table, &mut checks);
         every_told_month(tables, table, &mut checks);
+        every_pentad(table, &mut checks);
+        every_day_in_force(table, &mut checks);
     }
     checks
 }
@@ -175,7 +183,7 @@ fn days_with_qi_and_moon(tables: &Tables, checks: &mut Checks) {
     checks.same("Q-2, day of the summer solstice", summer.day, 2120808);
     checks.same("Q-2, day of the new moon", month.head, 2120808);
     let parts_between = guantian.system.remainder_of(month.new_moon) - summer.parts;
-    checks.same("Q-2, parts between them", (parts_between, summer.small_units), (76, 0));
+    checks.same("Q-2, parts between them", (parts_between, summer.units), (76, 0));
 
     checks.same("Q-2, leap months of 1094", leap_numbers(y), vec![4]);
 
@@ -295,6 +303,148 @@ fn around_ten(tables: &Tables, checks: &mut Checks) {
     }
 }
 
+/// The lines of one year's pentads, or the refusal.
+fn page_of(system: &str, year: &str) -> Answer {
+    page(&Number::read(system).unwrap(), &Number::read(year).unwrap())
+}
+
+/// The line of the pentad in force on one day, or the refusal.
+fn in_force_on(system: &str, day: &str) -> Answer {
+    let pentads = Pentads::asked(&Number::read(system).unwrap());
+    in_force_line(&pentads, &Number::read(day).unwrap())
+}
+
+fn one_line(line: &str) -> Answer {
+    Ok(vec![line.to_string()])
+}
+
+/// Pentads of Q-4 by hand. The solstices are those of cases 1 and 7, and one
+/// step is added to them; a third pentad is a qi; the last is a step before the
+/// next solstice, which for Guantian 1093 is 365 days and 2,930 parts on.
+fn pages_of_pentads(checks: &mut Checks) {
+    let guantian = page_of("1", "1092").unwrap();
+    checks.same("Q-4, lines", guantian.len(), 73);
+    checks.same("Q-4, first line", guantian[0].as_str(), "pentads G 1092");
+    checks.same("Q-4, solstice", guantian[1].as_str(), "pentad 0 2119895 24 2320 0");
+    checks.same("Q-4, a step on", guantian[2].as_str(), "pentad 1 2119900 29 3196 4");
+    checks.same("Q-4, a qi on", guantian[4].as_str(), "pentad 3 2119910 39 4948 12");
+    checks.same("Q-4, a step back", guantian[72].as_str(), "pentad 71 2120255 24 4373 32");
+    let summer = &page_of("1", "1094").unwrap()[37];
+    checks.same("Q-4, summer solstice", summer.as_str(), "pentad 36 2120808 37 3630 0");
+
+    let jiyuan = page_of("2", "1106").unwrap();
+    checks.same("Q-4, lines", jiyuan.len(), 73);
+    checks.same("Q-4, first line", jiyuan[0].as_str(), "pentads J 1106");
+    checks.same("Q-4, solstice", jiyuan[1].as_str(), "pentad 0 2125008 37 4536 0");
+    checks.same("Q-4, a step on", jiyuan[2].as_str(), "pentad 1 2125013 42 5066 55");
+    checks.same("Q-4, a qi on", jiyuan[4].as_str(), "pentad 3 2125023 52 6128 45");
+
+    for system in ["0", "3", "4294967297", "18446744073709551618"] {
+        checks.same("Q-4, no such system", page_of(system, "1092"), Err(4));
+        checks.same("Q-4, no such system", page_of(system, "0"), Err(4));
+    }
+    for year in ["0", "3001", "66628", "4294968388", "18446744073709552708"] {
+        checks.same("Q-4, no such year", page_of("1", year), Err(5));
+        checks.same("Q-4, no such year", page_of("2", year), Err(5));
+    }
+}
+
+/// The pentad in force around those days, by hand, and around the first and the
+/// last day that may be asked for, which are the same in both systems.
+fn pentads_in_force(checks: &mut Checks) {
+    for (system, day, line) in [
+        ("1", "2119894", "2119894 G 1091 71"),
+        ("1", "2119895", "2119895 G 1092 0"),
+        ("1", "2119899", "2119899 G 1092 0"),
+        ("1", "2119900", "2119900 G 1092 1"),
+        ("1", "2120807", "2120807 G 1094 35"),
+        ("1", "2120808", "2120808 G 1094 36"),
+        ("1", "2120812", "2120812 G 1094 36"),
+        ("1", "2120813", "2120813 G 1094 37"),
+        ("2", "2125007", "2125007 J 1105 71"),
+        ("2", "2125008", "2125008 J 1106 0"),
+        ("2", "2125012", "2125012 J 1106 0"),
+        ("2", "2125013", "2125013 J 1106 1"),
+        ("1", "1721414", "1721414 G 1 0"),
+        ("2", "1721414", "1721414 J 1 0"),
+        ("1", "2817144", "2817144 G 3000 71"),
+        ("2", "2817144", "2817144 J 3000 71"),
+    ] {
+        checks.same("Q-4, in force", in_force_on(system, day), one_line(line));
+    }
+    for system in ["0", "3", "4294967297", "18446744073709551618"] {
+        checks.same("Q-4, no such system", in_force_on(system, "2120808"), Err(4));
+        checks.same("Q-4, no such system", in_force_on(system, "0"), Err(4));
+    }
+    for day in ["0", "1721413", "2817145", "4294967295", "4297088104", "18446744073711672424"] {
+        checks.same("Q-4, no such day", in_force_on("1", day), Err(7));
+        checks.same("Q-4, no such day", in_force_on("2", day), Err(7));
+    }
+}
+
+/// What Q-4 says of every year's pentads: the first is the solstice, every
+/// third is a qi, and the units told are fewer than make a part.
+fn every_pentad(table: &Table, checks: &mut Checks) {
+    let system = table.system;
+    for number in FIRST_YEAR..=LAST_YEAR {
+        let y = table.year(number);
+        let say = |what: &str| format!("{} {}: {}", system.letter, number, what);
+        let pentads = system.pentads(number);
+        checks.that(pentads.len() == 72, || say("not 72 pentads"));
+        let (first, remainder) = (&pentads[0], y.solstice_remainder);
+        checks.that(
+            first.day == y.solstice_day && first.parts == remainder && first.units == 0,
+            || say("pentad 0 is not the solstice"),
+        );
+        for (third, qi) in pentads.iter().step_by(3).zip(&y.qi) {
+            // The two fractions of a part, of 36 or 60 units and of 36 or 4.
+            let pentad_over_both = third.units * system.small_units_in_part;
+            let qi_over_both = qi.units * system.pentad_units_in_part;
+            checks.that(
+                third.day == qi.day && third.parts == qi.parts && pentad_over_both == qi_over_both,
+                || say("a third pentad is not a qi"),
+            );
+        }
+        for pentad in &pentads {
+            let in_day = (0..system.parts_in_day).contains(&pentad.parts);
+            let in_part = (0..system.pentad_units_in_part).contains(&pentad.units);
+            checks.that(in_day && in_part, || say("parts or units too many"));
+        }
+    }
+}
+
+/// Every day that may be asked for, met by going from pentad to pentad: one is
+/// in force from its own day to the day before that of the next, and the last
+/// of a year to the day before the next solstice.
+fn every_day_in_force(table: &Table, checks: &mut Checks) {
+    let system = table.system;
+    let pentads = Pentads::new(system);
+    let found = |day| pentads.in_force(day).map(|pentad| (pentad.year, pentad.number));
+    let say = |day: i128| format!("{}: the pentad in force on day {}", system.letter, day);
+    for pair in pentads.list.windows(2) {
+        let days = pair[1].day - pair[0].day;
+        checks.that(days == 5 || days == 6, || say(pair[0].day));
+    }
+    let first_day = table.year(FIRST_YEAR).solstice_day;
+    let mut day = first_day;
+    for year in FIRST_YEAR..=LAST_YEAR {
+        let next_solstice = table.year(year + 1).solstice_day;
+        let mut starts: Vec<i128> = system.pentads(year).iter().map(|pentad| pentad.day).collect();
+        starts.push(next_solstice);
+        for (number, around) in starts.windows(2).enumerate() {
+            checks.that(day == around[0], || say(day));
+            while day < around[1] {
+                checks.that(found(day) == Some((year, number)), || say(day));
+                day += 1;
+            }
+        }
+        // So the list runs on from year to year.
+        checks.that(found(next_solstice - 1) == Some((year, 71)), || say(next_solstice - 1));
+        checks.that(found(next_solstice) == Some((year + 1, 0)), || say(next_solstice));
+    }
+    checks.that(pentads.days() == (first_day..day), || say(day));
+}
+
 /// The numbers of the months that hold the middle qi, in order.
 const IN_ORDER: [u8; 12] = [11, 12, 1, 2, 3, 4, 5, 6, 7, 8, 9, 10];
 
@@ -383,22 +533,28 @@ fn names(table: &Table, checks: &mut Checks) {
     }
 }
 
-/// A moment kept as days, parts and small units, added to with carrying, and
-/// so never divided.
+/// A moment kept as days, parts and units of a part, added to with carrying,
+/// and so never divided.
 #[derive(Clone, Copy, PartialEq, Eq, Debug)]
 struct Clock {
     day: i64,
     parts: i64,
-    small_units: i64,
+    units: i64,
 }
 
 impl Clock {
+    /// Adds a step in small units.
     fn add(&mut self, system: &System, step: Clock) {
+        self.add_in(system, system.small_units_in_part as i64, step);
+    }
+
+    /// Adds a step in units of which a part has so many.
+    fn add_in(&mut self, system: &System, units_in_part: i64, step: Clock) {
         self.day += step.day;
         self.parts += step.parts;
-        self.small_units += step.small_units;
-        if self.small_units >= system.small_units_in_part as i64 {
-            self.small_units -= system.small_units_in_part as i64;
+        self.units += step.units;
+        if self.units >= units_in_part {
+            self.units -= units_in_part;
             self.parts += 1;
         }
         if self.parts >= system.parts_in_day as i64 {
@@ -406,14 +562,20 @@ impl Clock {
             self.day += 1;
         }
     }
+
+    fn is_at(&self, system: &System, moment: &Moment) -> bool {
+        self.day as i128 - system.count_day_minus == moment.day
+            && self.parts as i128 == moment.parts
+            && self.units as i128 == moment.units
+    }
 }
 
-/// Solstices, qi and months once more, from the epoch by carried steps. The
-/// steps are written out; Guantian's qi step has the 12 small units that the
+/// Solstices, qi, pentads and months once more, from the epoch by carried steps.
+/// The steps are written out; Guantian's qi step has the 12 small units that the
 /// paper puts in place of the printed 11.
 fn carried_walk(table: &Table, checks: &mut Checks) {
     let system = table.system;
-    let clock = |day, parts, small_units| Clock { day, parts, small_units };
+    let clock = |day, parts, units| Clock { day, parts, units };
     let (year_step, month_step, qi_step) = match system.number {
         1 => (clock(365, 2_930, 0), clock(29, 6_383, 0), clock(15, 2_628, 12)),
         _ => (clock(365, 1_776, 0), clock(29, 3_868, 0), clock(15, 1_592, 3)),
@@ -438,20 +600,14 @@ fn carried_walk(table: &Table, checks: &mut Checks) {
         checks.that(
             register(solstice) == y.solstice_day
                 && solstice.parts as i128 == y.solstice_remainder
-                && solstice.small_units == 0,
+                && solstice.units == 0,
             || say("solstice"),
         );
 
         let mut qi = solstice;
         let mut middle = Vec::new();
         for i in 0..24 {
-            let expected = &y.qi[i];
-            checks.that(
-                register(qi) == expected.day
-                    && qi.parts as i128 == expected.parts
-                    && qi.small_units as i128 == expected.small_units,
-                || say(&format!("qi {}", i)),
-            );
+            checks.that(qi.is_at(system, &y.qi[i]), || say(&format!("qi {}", i)));
             if i % 2 == 0 {
                 middle.push(qi.day);
             }
@@ -460,6 +616,7 @@ fn carried_walk(table: &Table, checks: &mut Checks) {
         let mut next_solstice = solstice;
         next_solstice.add(system, year_step);
         checks.that(qi == next_solstice, || say("24 qi steps do not close on the year"));
+        carried_pentads(system, number, solstice, next_solstice, checks);
 
         // New moons: the last on the solstice's day or an earlier one.
         while end_of_moon(moon).day <= solstice.day {
@@ -469,6 +626,28 @@ fn carried_walk(table: &Table, checks: &mut Checks) {
         carried_months(system, y, moon, month_step, middle, checks);
         solstice = next_solstice;
     }
+}
+
+/// A year's pentads from its solstice on, by the steps that the sources print.
+fn carried_pentads(
+    system: &System,
+    year: i128,
+    solstice: Clock,
+    next_solstice: Clock,
+    checks: &mut Checks,
+) {
+    let (units_in_part, step) = match system.number {
+        1 => (36, Clock { day: 5, parts: 876, units: 4 }),
+        _ => (60, Clock { day: 5, parts: 530, units: 55 }),
+    };
+    let say = |what: &str| format!("{} {}: {} by carried steps", system.letter, year, what);
+    let pentads = system.pentads(year);
+    let mut clock = solstice;
+    for p in 0..72 {
+        checks.that(clock.is_at(system, &pentads[p]), || say(&format!("pentad {}", p)));
+        clock.add_in(system, units_in_part, step);
+    }
+    checks.that(clock == next_solstice, || say("72 pentad steps do not close on the year"));
 }
 
 /// A year's months from its first new moon on, and the days of its middle qi

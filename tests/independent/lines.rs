@@ -1,7 +1,7 @@
 //! The program of paper 01: records from standard input, one line for each.
 
 use crate::citation::{store, Refusal};
-use crate::reckoning::{name_of, Tables};
+use crate::reckoning::{name_of, Moment, Tables};
 use std::io::{self, Write};
 
 pub fn lines(tables: &Tables, input: &[u8], out: &mut impl Write) -> io::Result<()> {
@@ -77,6 +77,12 @@ fn refused_line(refusal: Refusal) -> String {
         10 => format!("refused 10 {}", refusal.leap_month),
         number => format!("refused {}", number),
     }
+}
+
+/// A qi or a pentad, by its number in the year.
+pub fn moment_line(word: &str, number: usize, moment: &Moment) -> String {
+    let Moment { day, parts, units } = moment;
+    format!("{} {} {} {} {} {}", word, number, day, name_of(*day), parts, units)
 }
 
 /// A month's number, with `*` after it if leap.

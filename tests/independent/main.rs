@@ -6,6 +6,7 @@ mod cases;
 mod citation;
 mod compare;
 mod lines;
+mod pentads;
 mod random;
 mod reckoning;
 mod requests;
@@ -20,6 +21,8 @@ use streams::ANSWERS;
 const USAGE: &str = "usage:
   independent year SYSTEM YEAR [LAST]
   independent compare FIRST SECOND YEAR [LAST]
+  independent pentads SYSTEM YEAR [LAST]
+  independent pentad SYSTEM DAY [LAST]
   independent lines < records
   independent cuts LONGEST < records
   independent days SYSTEM
@@ -37,6 +40,10 @@ fn main() {
         ["year", system, year, last] => year_pages(system, year, last, &mut out),
         ["compare", first, second, year] => compare(first, second, year, year, &mut out),
         ["compare", first, second, year, last] => compare(first, second, year, last, &mut out),
+        ["pentads", system, year] => pentad_pages(system, year, year, &mut out),
+        ["pentads", system, year, last] => pentad_pages(system, year, last, &mut out),
+        ["pentad", system, day] => pentad_lines(system, day, day, &mut out),
+        ["pentad", system, day, last] => pentad_lines(system, day, last, &mut out),
         ["lines"] => lines::lines(&Tables::new(), &records(), &mut out),
         ["cuts", longest] => lines::cuts(&Tables::new(), &records(), word(longest), &mut out),
         ["days", "1"] => streams::days(&Table::new(&GUANTIAN), &mut out),
@@ -76,6 +83,16 @@ fn compare(first: &str, second: &str, year: &str, last: &str, out: &mut impl Wri
     let (tables, first, second) = (Tables::new(), number(first), number(second));
     let comparison = |year: &Number| compare::comparison(&tables, &first, &second, year);
     answers(&number(year), &number(last), comparison, out)
+}
+
+fn pentad_pages(system: &str, year: &str, last: &str, out: &mut impl Write) -> io::Result<()> {
+    let system = number(system);
+    answers(&number(year), &number(last), |year| pentads::page(&system, year), out)
+}
+
+fn pentad_lines(system: &str, day: &str, last: &str, out: &mut impl Write) -> io::Result<()> {
+    let pentads = pentads::Pentads::asked(&number(system));
+    answers(&number(day), &number(last), |day| pentads::in_force_line(&pentads, day), out)
 }
 
 /// All of standard input.

@@ -6,7 +6,9 @@
 use std::cell::OnceCell;
 use std::ops::Range;
 
-/// Paper 01, constants: one column of the table.
+/// Paper 01, constants: one column of the table; and the units in which paper
+/// 02, Q-4 tells a pentad's fraction of a part, which need not be the small
+/// units of a qi.
 pub struct System {
     pub number: u8,
     pub letter: char,
@@ -14,6 +16,7 @@ pub struct System {
     pub parts_in_year: i128,
     pub parts_in_month: i128,
     pub small_units_in_part: i128,
+    pub pentad_units_in_part: i128,
     pub known_year: i128,
     pub elapsed_at_known_year: i128,
     pub name_of_count_day_0: i128,
@@ -27,6 +30,7 @@ pub const GUANTIAN: System = System {
     parts_in_year: 4_393_880,
     parts_in_month: 355_253,
     small_units_in_part: 36,
+    pentad_units_in_part: 36,
     known_year: 1092,
     elapsed_at_known_year: 5_944_808,
     name_of_count_day_0: 0,
@@ -40,6 +44,7 @@ pub const JIYUAN: System = System {
     parts_in_year: 2_662_626,
     parts_in_month: 215_278,
     small_units_in_part: 4,
+    pentad_units_in_part: 60,
     known_year: 1100,
     elapsed_at_known_year: 28_613_460,
     name_of_count_day_0: 15,
@@ -51,18 +56,23 @@ pub const FIRST_YEAR: i128 = 1;
 pub const LAST_YEAR: i128 = 3000;
 const TABLE_END: i128 = 3002;
 
-/// A part is cut into 24 times its small units, so that a twenty-fourth of
-/// any number of small units is still a whole number.
-const CUT: i128 = 24;
+/// The equal steps from solstice to solstice.
+const QI: i128 = 24;
+const PENTADS: i128 = 72;
 
 impl System {
+    /// The system of that number, if there is one.
+    pub fn numbered(number: u8) -> Option<&'static System> {
+        [&GUANTIAN, &JIYUAN].into_iter().find(|system| system.number == number)
+    }
+
     /// The winter solstice: a whole number of years after the epoch.
     pub fn solstice_parts(&self, year: i128) -> i128 {
         let elapsed = self.elapsed_at_known_year + (year - self.known_year);
         elapsed * self.parts_in_year
     }
 
-    fn solstice_day(&self, year: i128) -> i128 {
+    pub fn solstice_day(&self, year: i128) -> i128 {
         self.register_day_of(self.solstice_parts(year))
     }
 
@@ -77,24 +87,37 @@ impl System {
         parts % self.parts_in_day
     }
 
-    /// The moment of a qi, i equal steps of 24 after the solstice, exactly and
-    /// in the finest units, of which a step has Y * small units.
-    fn qi_fine(&self, year: i128, i: i128) -> i128 {
-        (self.solstice_parts(year) * CUT + i * self.parts_in_year) * self.small_units_in_part
+    /// The year's qi in order, the solstice first.
+    fn qi(&self, year: i128) -> Vec<Moment> {
+        self.cut(year, QI, self.small_units_in_part)
     }
 
-    /// The same as a day, and the parts and small units past its beginning.
-    fn qi(&self, year: i128, i: i128) -> Qi {
-        let moment = self.qi_fine(year, i);
-        let fine_in_part = self.small_units_in_part * CUT;
+    /// The year's pentads in order, the solstice first.
+    pub fn pentads(&self, year: i128) -> Vec<Moment> {
+        self.cut(year, PENTADS, self.pentad_units_in_part)
+    }
+
+    /// The moments at which so many equal steps of the year begin, in order.
+    fn cut(&self, year: i128, steps: i128, units_in_part: i128) -> Vec<Moment> {
+        (0..steps).map(|i| self.step(year, i, steps, units_in_part)).collect()
+    }
+
+    /// The moment i equal steps after the solstice, of which the year has so
+    /// many, exactly: a part is cut into that many times its units, so that a
+    /// step, an equal share of Y parts, is Y * units of these. It must come out
+    /// in whole units.
+    fn step(&self, year: i128, i: i128, steps: i128, units_in_part: i128) -> Moment {
+        let fine_in_part = units_in_part * steps;
         let fine_in_day = self.parts_in_day * fine_in_part;
+        let fine_in_step = self.parts_in_year * units_in_part;
+        let moment = self.solstice_parts(year) * fine_in_part + i * fine_in_step;
         let left_of_day = moment % fine_in_day;
         let left_of_part = left_of_day % fine_in_part;
-        assert!(left_of_part % CUT == 0, "a qi falls between two small units");
-        Qi {
+        assert!(left_of_part % steps == 0, "a step begins between two units");
+        Moment {
             day: moment / fine_in_day - self.count_day_minus,
             parts: left_of_day / fine_in_part,
-            small_units: left_of_part / CUT,
+            units: left_of_part / steps,
         }
     }
 }
@@ -104,10 +127,12 @@ pub fn name_of(register_day: i128) -> u8 {
     (register_day + 49).rem_euclid(60) as u8
 }
 
-pub struct Qi {
+/// The register day that a qi or a pentad falls on, and the parts and units of
+/// a part past its beginning.
+pub struct Moment {
     pub day: i128,
     pub parts: i128,
-    pub small_units: i128,
+    pub units: i128,
 }
 
 pub struct Month {
@@ -130,7 +155,7 @@ pub struct Year {
     pub solstice_parts: i128,
     pub solstice_day: i128,
     pub solstice_remainder: i128,
-    pub qi: Vec<Qi>,
+    pub qi: Vec<Moment>,
     pub months: Vec<Month>,
     pub head: i128,
     pub next_head: i128,
@@ -258,7 +283,7 @@ fn walk_to_month_with(system: &System, moon: &mut i128, day: i128) {
 }
 
 fn year_between(system: &System, number: i128, first_moon: i128, end_moon: i128) -> Year {
-    let qi: Vec<Qi> = (0..24).map(|i| system.qi(number, i)).collect();
+    let qi = system.qi(number);
     let mut months = Vec::new();
     let mut moon = first_moon;
     while moon < end_moon {
@@ -279,7 +304,7 @@ fn year_between(system: &System, number: i128, first_moon: i128, end_moon: i128)
     }
 }
 
-fn month_at(system: &System, qi: &[Qi], new_moon: i128, before: Option<&Month>) -> Month {
+fn month_at(system: &System, qi: &[Moment], new_moon: i128, before: Option<&Month>) -> Month {
     // The numbers of the months that hold the year's middle qi, in order.
     const NUMBERS: [u8; 12] = [11, 12, 1, 2, 3, 4, 5, 6, 7, 8, 9, 10];
     // Its days run from the day of its new moon to the day before the next.

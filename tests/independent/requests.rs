@@ -1,8 +1,9 @@
-//! Requests by system and year: their numbers as they are written, what they
-//! are refused for, and their answers over a range of years.
+//! Requests by system and year or day: their numbers as they are written, what
+//! they are refused for, and their answers over a range of years or days.
 
 use crate::reckoning::{FIRST_YEAR, LAST_YEAR};
 use std::io::{self, Write};
+use std::ops::Range;
 
 /// The lines that a request is answered with, or its refusal.
 pub type Answer = Result<Vec<String>, u8>;
@@ -26,9 +27,10 @@ impl Number {
         self.0.len() < other.0.len() || (self.0.len() == other.0.len() && self.0 <= other.0)
     }
 
-    /// The number itself if it has at most four digits.
+    /// The number itself if it has at most seven digits: no system, year or day
+    /// that may be asked for has more.
     fn small(&self) -> Option<i128> {
-        if self.0.len() > 4 {
+        if self.0.len() > 7 {
             return None;
         }
         let mut value = 0;
@@ -67,17 +69,25 @@ pub fn year_asked(number: &Number) -> Result<i128, u8> {
     }
 }
 
-/// The answers for the years from first to last, both among them.
+/// The day asked for. 7: it is not one of those that may be asked for.
+pub fn day_asked(number: &Number, days: Range<i128>) -> Result<i128, u8> {
+    match number.small() {
+        Some(day) if days.contains(&day) => Ok(day),
+        _ => Err(7),
+    }
+}
+
+/// The answers for the years or days from first to last, both among them.
 pub fn answers(
     first: &Number,
     last: &Number,
     answer: impl Fn(&Number) -> Answer,
     out: &mut impl Write,
 ) -> io::Result<()> {
-    let mut year = first.clone();
-    while year.at_most(last) {
-        write_answer(answer(&year), out)?;
-        year.add_one();
+    let mut asked = first.clone();
+    while asked.at_most(last) {
+        write_answer(answer(&asked), out)?;
+        asked.add_one();
     }
     Ok(())
 }
