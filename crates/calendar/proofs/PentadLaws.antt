@@ -23,6 +23,15 @@ pub jiyuan-pentad-step : step jiyuan 72 60 ≡ (5 * 7290 + 530) * 60 + 55
 jiyuan-pentad-step = refl
 
 module _ (c : Constants) (ok : Consistent c) where
+  -- Every third pentad is a qi, to the last unit.
+  pub every-third-is-a-qi : (n i : ℕ) → c .units * pentad c n (3 * i) ≡ c .fraction * qi c n i
+  every-third-is-a-qi n i =
+      coarser-on-finer c 3 24 (c .units) (c .fraction) (omega arith) (ok .qi-exact) (ok .pentads-exact) n i
+
+  pub every-third-told-alike : (n i : ℕ) → ToldAlike c (c .units) (c .fraction) (pentad c n (3 * i)) (qi c n i)
+  every-third-told-alike n i =
+      told-alike c (c .units) (c .fraction) (pentad c n (3 * i)) (qi c n i) (ok .units-some) (ok .fraction-some) (every-third-is-a-qi n i)
+
   -- Pentad 72 of a year is pentad 0 of the next,
   pub pentads-close : (n : ℕ) → pentad c n 72 ≡ pentad c (n + 1) 0
   pentads-close n = steps-close c 72 (c .fraction) (ok .pentads-exact) n
@@ -37,15 +46,6 @@ module _ (c : Constants) (ok : Consistent c) where
       × (partsOf c (c .fraction) (pentad c n 0) ≡ solsticeRemainder c n)
       × (unitsOf (c .fraction) (pentad c n 0) ≡ 0)
   pentad-zero n = step-zero c 72 (c .fraction) n (ok .fraction-some)
-
-  -- Every third pentad is a qi, to the last unit.
-  pub every-third-is-a-qi : (n i : ℕ) → c .units * pentad c n (3 * i) ≡ c .fraction * qi c n i
-  every-third-is-a-qi n i =
-      coarser-on-finer c 3 24 (c .units) (c .fraction) (omega arith) (ok .qi-exact) (ok .pentads-exact) n i
-
-  pub every-third-told-alike : (n i : ℕ) → ToldAlike c (c .units) (c .fraction) (pentad c n (3 * i)) (qi c n i)
-  every-third-told-alike n i =
-      told-alike c (c .units) (c .fraction) (pentad c n (3 * i)) (qi c n i) (ok .units-some) (ok .fraction-some) (every-third-is-a-qi n i)
 
   -- The day of a pentad, counted on from the epoch.
   pub pentad-day : (n p : ℕ) → pentadDay c n p ≡ dayOfStep c 72 (72 * n + p)

@@ -1,4 +1,5 @@
--- The proved examples of paper 01 as paper 02, Q-2, has them, and those of Q-3: one statement over a table, computed.
+-- The proved examples of paper 01 as paper 02, Q-2, has them, and those of Q-3 and Q-4: one statement over a table,
+-- computed.
 use Prim.Native.Nat.{ℕ, _+_, _*_, _-_, _^_, _/_, _%_}
 use mathlib.Core.Path.{_≡_, refl}
 use mathlib.Core.List.{List, [], _∷_, map}
@@ -12,7 +13,8 @@ use Rattle.calendar.specs.ClosedForms.{firstMonth}
 use Rattle.calendar.specs.LeapMonth.{lastLeap}
 use Rattle.reckoning.specs.Filled.{filled}
 use Rattle.reckoning.specs.ComputedRefusals.{yearRefusal, stepRefusal}
-use Rattle.reckoning.specs.Requests.{solsticeOf, qiOf, yearOf, monthsFrom, daysOf, monthOf, monthIn, dateOf, dateIn}
+use Rattle.reckoning.specs.Requests.{solsticeOf, qiOf, pentadOf, pentadIn, pentadInForce, yearOf, monthsFrom}
+use Rattle.reckoning.specs.Requests.{daysOf, monthOf, monthIn, dateOf, dateIn}
 use Rattle.citation.specs.Store.{judgeRegisterDay, judgeOrdinal, judgeDay, judgeName, judgeKind, lengthRight, judgeOf, refusalOf, toldOf, answerOf, storedInto}
 use Rattle.reckoning.specs.YearValue.{headIn, numberIn, leapIn}
 
@@ -26,6 +28,9 @@ pub data Question : Type 0 where
   -- solar and lunar parts are one
   Qi : ℕ → ℕ → ℕ → Question
   BeforeMoon : ℕ → ℕ → ℕ → ℕ → Question
+  -- a pentad: its refusal, day, the day's name, parts and units; the one in force on a register day: refusal, year, number
+  Pentad : ℕ → ℕ → ℕ → Question
+  InForceOn : ℕ → ℕ → Question
   -- a year's head, months and days
   Head : ℕ → ℕ → Question
   Months : ℕ → ℕ → Question
@@ -53,6 +58,10 @@ answer (BeforeMoon system year i place) =
     let k = firstMonth c n + place - 1 in
     let moment = qi c n i in
     (monthHead c k - dayOf c (c .units) moment) ∷ (newMoon c k - moment / c .units) ∷ []
+answer (Pentad system year p) =
+    let v = pentadOf system year p in
+    (v .refusal) ∷ (v .day .0) ∷ (nameOf (v .day .0)) ∷ (v .parts) ∷ (v .units) ∷ []
+answer (InForceOn system r) = let v = pentadInForce system r in (v .refusal) ∷ (v .year) ∷ (v .pentad) ∷ []
 answer (Head system year) = (headIn (yearOf system year) 0) ∷ []
 answer (Months system year) = ((yearOf system year) .count) ∷ []
 answer (Days system year) = let v = yearOf system year in (headIn v (v .count) - headIn v 0) ∷ []
@@ -151,9 +160,28 @@ table =
     ∷ (Months 2 1108 gives (12 ∷ []))
     ∷ (Refusal (byDate 2 1107 11 1 1) gives (10 ∷ 10 ∷ []))
     ∷ (Refusal (byDate 2 1108 10 1 1) gives (10 ∷ 0 ∷ []))
+    -- Q-4: from the solstices of cases 1 and 7 one step, in 36ths and in 60ths; then one that is a qi, at three quarters
+    ∷ (Pentad 1 1092 0 gives (0 ∷ 2_119_895 ∷ 24 ∷ 2320 ∷ 0 ∷ []))
+    ∷ (Pentad 1 1092 1 gives (0 ∷ 2_119_900 ∷ 29 ∷ 3196 ∷ 4 ∷ []))
+    ∷ (Pentad 2 1106 0 gives (0 ∷ 2_125_008 ∷ 37 ∷ 4536 ∷ 0 ∷ []))
+    ∷ (Pentad 2 1106 1 gives (0 ∷ 2_125_013 ∷ 42 ∷ 5066 ∷ 55 ∷ []))
+    ∷ (Pentad 2 1106 3 gives (0 ∷ 2_125_023 ∷ 52 ∷ 6128 ∷ 45 ∷ []))
+    -- refused, with zeros; 49 is the name of day 0
+    ∷ (Pentad 3 0 72 gives (4 ∷ 0 ∷ 49 ∷ 0 ∷ 0 ∷ []))
+    ∷ (Pentad 1 0 72 gives (5 ∷ 0 ∷ 49 ∷ 0 ∷ 0 ∷ []))
+    ∷ (Pentad 1 3000 72 gives (9 ∷ 0 ∷ 49 ∷ 0 ∷ 0 ∷ []))
+    -- the day of case 9, the turn of the year, the first and the last day
+    ∷ (InForceOn 1 2_120_808 gives (0 ∷ 1094 ∷ 36 ∷ []))
+    ∷ (InForceOn 1 2_119_894 gives (0 ∷ 1091 ∷ 71 ∷ []))
+    ∷ (InForceOn 1 2_119_895 gives (0 ∷ 1092 ∷ 0 ∷ []))
+    ∷ (InForceOn 1 1_721_413 gives (7 ∷ 0 ∷ 0 ∷ []))
+    ∷ (InForceOn 1 1_721_414 gives (0 ∷ 1 ∷ 0 ∷ []))
+    ∷ (InForceOn 2 2_817_144 gives (0 ∷ 3000 ∷ 71 ∷ []))
+    ∷ (InForceOn 2 2_817_145 gives (7 ∷ 0 ∷ 0 ∷ []))
+    ∷ (InForceOn 3 0 gives (4 ∷ 0 ∷ 0 ∷ []))
     ∷ []
 
 pub examples : map asked table ≡ map expected table
-unfolding answer asked expected table first-of-case-9 then byOrdinal byDate byName solsticeOf qiOf yearOf yearRefusal stepRefusal monthsFrom filled
+unfolding answer asked expected table first-of-case-9 then byOrdinal byDate byName solsticeOf qiOf pentadOf pentadIn pentadInForce yearOf yearRefusal stepRefusal monthsFrom filled
     lastLeap refusalOf answerOf storedInto judgeOf lengthRight judgeKind judgeDay judgeName judgeOrdinal judgeRegisterDay daysOf monthOf monthIn dateOf dateIn
 examples = refl
