@@ -19,7 +19,7 @@ programs = build/chiselbrow build/almanac
 # The toolchain's own C code, beside rt: what the programs call of the system.
 system := $(dir $(shell readlink -f "$$(command -v rt)"))../lib/libos_c.a
 test_tools = build/independent build/store_check build/null_check build/builders build/incident build/feed build/faults.so
-bench_tools = build/bench build/c_program build/c_compare
+bench_tools = build/bench build/c_program build/c_compare build/c_pentads
 # The longest first, so that two at a time end together.
 tests = tests/mixups.sh tests/program.sh tests/every_day.sh tests/every_year.sh tests/pipes.sh tests/damaged.sh \
         tests/every_comparison.sh tests/every_pentad.sh tests/faults.sh tests/cases.sh tests/descriptors.sh tests/arguments.sh \
@@ -138,5 +138,5 @@ build/bench: bench/bench.c bench/records.c bench/c_store.c $(wildcard bench/*.h)
 build/c_program: bench/c_program.c bench/c_store.c $(wildcard bench/*.h) | build
 	$(CC) $(CFLAGS) -o $@ $(filter %.c,$^)
 
-build/c_compare: bench/c_compare.c $(wildcard bench/*.h) | build
+build/c_compare build/c_pentads: build/%: bench/%.c $(wildcard bench/*.h) | build
 	$(CC) $(CFLAGS) -o $@ $<

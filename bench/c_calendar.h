@@ -21,16 +21,17 @@ struct calendar {
     uint64_t day;       /* parts in a day */
     uint64_t year;      /* parts in a year */
     uint64_t month;     /* parts in a mean month */
+    uint64_t fraction;  /* units in a part, of those of a pentad's fraction */
     uint64_t elapsed;   /* years elapsed at common year 0 */
     uint64_t anchor;    /* count day less register day */
 };
 
 static const struct calendar guantian = {
-    12030, 4393880, 355253, 5944808 - 1092, 2169182929
+    12030, 4393880, 355253, 36, 5944808 - 1092, 2169182929
 };
 
 static const struct calendar jiyuan = {
-    7290, 2662626, 215278, 28613460 - 1100, 10448760934
+    7290, 2662626, 215278, 60, 28613460 - 1100, 10448760934
 };
 
 /* A month, its first day and the next month's, as count days. */

@@ -8,6 +8,7 @@
 #include <string.h>
 #include <unistd.h>
 
+#include "c_numbers.h"
 #include "c_output.h"
 #include "c_store.h"
 
@@ -30,48 +31,6 @@ static char *line_start(void)
 static void line_end(const char *end)
 {
     output_len = (size_t)(end - output);
-}
-
-/* Numbers, two digits at a time. */
-
-static const char pairs[] =
-    "00010203040506070809" "10111213141516171819"
-    "20212223242526272829" "30313233343536373839"
-    "40414243444546474849" "50515253545556575859"
-    "60616263646566676869" "70717273747576777879"
-    "80818283848586878889" "90919293949596979899";
-
-static char *put_pair(char *at, uint32_t number)
-{
-    memcpy(at, pairs + 2 * number, 2);
-    return at + 2;
-}
-
-/* Below 10 this starts at the second digit and writes one byte too many,
- * which the next one covers; so there is no branch to guess wrong. */
-static char *put_below_100(char *at, uint32_t number)
-{
-    uint32_t skipped = number < 10;
-
-    memcpy(at, pairs + 2 * number + skipped, 2);
-    return at + 2 - skipped;
-}
-
-static char *put_year(char *at, uint32_t year)
-{
-    if (year < 100)
-        return put_below_100(at, year);
-    at = put_below_100(at, year / 100);
-    return put_pair(at, year % 100);
-}
-
-/* Every day of the years 1 to 3000 has a number of seven digits. */
-static char *put_register_day(char *at, uint32_t day)
-{
-    *at++ = (char)('0' + day / 1000000);
-    at = put_pair(at, day / 10000 % 100);
-    at = put_pair(at, day / 100 % 100);
-    return put_pair(at, day % 100);
 }
 
 /* Lines. */
@@ -98,7 +57,7 @@ static void write_stored(const uint8_t *stored, uint32_t day)
 
     *at++ = stored[4] == 1 ? 'G' : 'J';
     *at++ = ' ';
-    at = put_year(at, year);
+    at = put_below_10000(at, year);
     *at++ = ' ';
     at = put_below_100(at, stored[7]);
     *at = '*';

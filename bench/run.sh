@@ -1,7 +1,7 @@
 #!/usr/bin/env bash
 # Runs all measurements on what make has built: nanoseconds a record for the
-# storing step, records a second for the program, nanoseconds a year for
-# comparisons, and at the end the ratios of their times to those of C by
+# storing step, records a second for the program, nanoseconds a year or a day
+# for the almanac, and at the end the ratios of their times to those of C by
 # themselves.
 
 set -euo pipefail
@@ -10,7 +10,7 @@ cd "$(dirname "$0")/.."
 {
     build/bench
     bench/bench_program.sh build/chiselbrow build/c_program
-    bench/bench_compare.sh build/almanac build/c_compare
+    bench/bench_almanac.sh build/almanac build/c_compare build/c_pentads
 } | awk '
     { print; fflush() }
     / ratio / {

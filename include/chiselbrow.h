@@ -162,8 +162,8 @@
  * when a rule of the calendar changes: a record that an earlier version stored
  * can then name another day or none, and has to be stored anew, from the
  * register day that was answered with it. The third rises with what is told,
- * as when a refusal gets a number of its own. */
-#define CHISELBROW_VERSION "1.1.1"
+ * as when a refusal gets a number of its own, or the almanac a request. */
+#define CHISELBROW_VERSION "1.1.2"
 
 #ifdef __cplusplus
 extern "C" {

@@ -81,9 +81,11 @@ wrong x
 wrong x y
 wrong examples/case-9.bin
 
-about almanac 'usage: almanac year SYSTEM YEAR [LAST] | almanac compare FIRST SECOND YEAR [LAST] (see almanac --help)' \
-    'almanac year SYSTEM YEAR [LAST]
+forms='almanac year SYSTEM YEAR [LAST]
+almanac pentads SYSTEM YEAR [LAST]
+almanac pentad SYSTEM DAY [LAST]
 almanac compare FIRST SECOND YEAR [LAST]'
+about almanac "usage: ${forms//$'\n'/ | } (see almanac --help)" "$forms"
 unwritable
 unlike
 wrong
@@ -109,6 +111,25 @@ wrong year 0x1 1092
 wrong year 1 1092 1094 1096
 wrong year 1 1092 --help
 wrong year --help
+wrong pentads
+wrong pentads 1
+wrong pentads 1 ''
+wrong pentads G 1092
+wrong pentads 1 1092 x
+wrong pentads 1 1092 1094 1096
+wrong pentads --help
+wrong Pentad 1 2120808
+wrong pentad
+wrong pentad 1
+wrong pentad 1 ''
+wrong pentad G 2120808
+wrong pentad 1 -1
+wrong pentad 1 2120808 x
+wrong pentad 1 2120808 2120809 2120810
+wrong pentad 1 2120808 --help
+wrong pentad --help
+wrong penta 1 2120808
+wrong pentadss 1 1092
 wrong Compare 1 2 1094
 wrong compare
 wrong compare 1

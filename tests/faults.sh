@@ -149,6 +149,19 @@ build/independent year "${command[@]:2}" > "$scratch/right"
 plain 0 2
 every_fault write "$ENOSPC"
 
+# Pentads of years and of days, with refusals on either side.
+command=(build/almanac pentads 2 2999 3001)
+build/independent pentads "${command[@]:2}" > "$scratch/right"
+export WRITE_MOST=300
+plain 0 12
+every_fault write "$ENOSPC"
+unset WRITE_MOST
+
+command=(build/almanac pentad 1 1720000 1735000)
+build/independent pentad "${command[@]:2}" > "$scratch/right"
+plain 0 2
+every_fault write "$ENOSPC"
+
 # Comparisons: 13 places, none, and a refusal.
 command=(build/almanac compare 1 2 2881 3001)
 build/independent compare "${command[@]:2}" > "$scratch/right"

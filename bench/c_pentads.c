@@ -1,0 +1,142 @@
+/* Pentads over a range of years, and the pentads in force over a range of
+ * register days, written by hand in C:
+ *
+ *     c_pentads pentads SYSTEM YEAR LAST
+ *     c_pentads pentad SYSTEM DAY LAST
+ *
+ * The arguments are taken as they come: what is measured is the reckoning
+ * and the lines, not the reading of arguments. */
+
+#define _POSIX_C_SOURCE 200809L
+
+#include <stdint.h>
+#include <stdlib.h>
+#include <string.h>
+
+#include "c_calendar.h"
+#include "c_numbers.h"
+#include "c_output.h"
+
+enum {
+    PENTADS = 72,
+    LONGEST_LINE = 64
+};
+
+/* Output: room for one more line. */
+static char *line_start(void)
+{
+    if (OUTPUT_ROOM - output_len < LONGEST_LINE)
+        flush_output();
+    return output + output_len;
+}
+
+static void line_end(char *at)
+{
+    *at++ = '\n';
+    output_len = (size_t)(at - output);
+}
+
+static char *put_word(char *at, const char *word)
+{
+    size_t length = strlen(word);
+
+    memcpy(at, word, length);
+    return at + length;
+}
+
+static char *put_field(char *at, uint32_t number)
+{
+    *at++ = ' ';
+    if (number < 10000)
+        return put_below_10000(at, number);
+    at = put_below_100(at, number / 10000);
+    at = put_pair(at, number / 100 % 100);
+    return put_pair(at, number % 100);
+}
+
+static char *put_year(char *at, char letter, uint32_t year)
+{
+    *at++ = letter;
+    return put_field(at, year);
+}
+
+static void write_refused(uint32_t number)
+{
+    line_end(put_field(put_word(line_start(), "refused"), number));
+}
+
+/* The pentads of a year. */
+INLINE void write_pentads(const struct calendar *c, char letter, uint32_t year)
+{
+    uint64_t step = c->year * c->fraction / PENTADS;
+    uint64_t moment = (c->elapsed + year) * c->year * c->fraction;
+
+    line_end(put_year(put_word(line_start(), "pentads "), letter, year));
+    for (uint32_t p = 0; p < PENTADS; p++, moment += step) {
+        uint64_t parts = moment / c->fraction;
+        uint32_t day = (uint32_t)(parts / c->day - c->anchor);
+        char *at = put_field(put_word(line_start(), "pentad"), p);
+
+        *at++ = ' ';
+        at = put_field(put_register_day(at, day), (day + 49) % 60);
+        at = put_field(at, (uint32_t)(parts % c->day));
+        line_end(put_field(at, (uint32_t)(moment % c->fraction)));
+    }
+}
+
+/* The pentad in force at the end of a day: the last before the next. */
+INLINE void write_in_force(const struct calendar *c, char letter, uint32_t day)
+{
+    uint64_t next = day + c->anchor + 1;
+    uint64_t pentad = (next * (PENTADS * c->day) - 1) / c->year;
+    uint64_t year = pentad / PENTADS - c->elapsed;
+
+    if (year - 1 >= LAST_YEAR) {
+        write_refused(7);
+        return;
+    }
+    char *at = put_register_day(line_start(), day);
+    *at++ = ' ';
+    at = put_year(at, letter, (uint32_t)year);
+    line_end(put_field(at, (uint32_t)(pentad % PENTADS)));
+}
+
+static void write_year(uint32_t system, uint32_t year)
+{
+    if (system - 1 >= 2)
+        write_refused(4);
+    else if (year - 1 >= LAST_YEAR)
+        write_refused(5);
+    else if (system == 1)
+        write_pentads(&guantian, 'G', year);
+    else
+        write_pentads(&jiyuan, 'J', year);
+}
+
+static void write_day(uint32_t system, uint32_t day)
+{
+    if (system - 1 >= 2)
+        write_refused(4);
+    else if (system == 1)
+        write_in_force(&guantian, 'G', day);
+    else
+        write_in_force(&jiyuan, 'J', day);
+}
+
+int main(int argc, char **argv)
+{
+    if (argc != 5)
+        return 2;
+
+    uint32_t system = (uint32_t)strtoul(argv[2], NULL, 10);
+    uint32_t last = (uint32_t)strtoul(argv[4], NULL, 10);
+    int years = strcmp(argv[1], "pentads") == 0;
+    for (uint32_t n = (uint32_t)strtoul(argv[3], NULL, 10); n <= last; n++) {
+        if (years)
+            write_year(system, n);
+        else
+            write_day(system, n);
+    }
+    flush_output();
+    return 0;
+}
