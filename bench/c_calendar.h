@@ -21,7 +21,7 @@ struct calendar {
     uint64_t day;       /* parts in a day */
     uint64_t year;      /* parts in a year */
     uint64_t month;     /* parts in a mean month */
-    uint64_t fraction;  /* units in a part, of those of a pentad's fraction */
+    uint64_t denominator; /* of a pentad's fraction of a part */
     uint64_t elapsed;   /* years elapsed at common year 0 */
     uint64_t anchor;    /* count day less register day */
 };

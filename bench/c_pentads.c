@@ -68,19 +68,19 @@ static void write_refused(uint32_t number)
 /* The pentads of a year. */
 INLINE void write_pentads(const struct calendar *c, char letter, uint32_t year)
 {
-    uint64_t step = c->year * c->fraction / PENTADS;
-    uint64_t moment = (c->elapsed + year) * c->year * c->fraction;
+    uint64_t step = c->year * c->denominator / PENTADS;
+    uint64_t moment = (c->elapsed + year) * c->year * c->denominator;
 
     line_end(put_year(put_word(line_start(), "pentads "), letter, year));
     for (uint32_t p = 0; p < PENTADS; p++, moment += step) {
-        uint64_t parts = moment / c->fraction;
+        uint64_t parts = moment / c->denominator;
         uint32_t day = (uint32_t)(parts / c->day - c->anchor);
         char *at = put_field(put_word(line_start(), "pentad"), p);
 
         *at++ = ' ';
         at = put_field(put_register_day(at, day), (day + 49) % 60);
         at = put_field(at, (uint32_t)(parts % c->day));
-        line_end(put_field(at, (uint32_t)(moment % c->fraction)));
+        line_end(put_field(at, (uint32_t)(moment % c->denominator)));
     }
 }
 

@@ -35,8 +35,8 @@ requestedPage (Compare first second) n = comparisonPage first second n
 abbrev pub pagesOf : Request → ℕ → ℕ → List ℕ
 pagesOf request first count = textsUpTo (λ i. requestedPage request (numberAfter first i)) count
 
--- A buffer filled from its start with the pages of up to `count` numbers, each where 8192 bytes, a page's room, were left:
--- all of them, or until there is no room for one more.
+-- A buffer filled from its start with the pages of up to `count` numbers, each where 8192 bytes, a page's room, were
+-- left: all of them, or until there is no room for one more.
 pub record FilledWith (request : Request) (first count : ℕ) (before after : List ℕ) (r : Filled) : Type 0 where
   pub text : Wrote before 0 (pagesOf request first (r .pages)) after (r .end)
   pub next-is : r .next ≡ numberAfter first (r .pages)

@@ -39,8 +39,8 @@ fn misuse() -> u32
     )
 }
 
-// Writes what is asked of each number from argument i to the last argument, which is argument i again where LAST is left
-// out. All arguments are read before anything is written.
+// Writes what is asked of each number from argument i to the last argument, which is argument i again where LAST is
+// left out. All arguments are read before anything is written.
 fn write_range(request: Request, i: usize, last: usize) -> u32
     ensures { λ r. ⌜ Ended r ⌝ }
 {

@@ -1,6 +1,8 @@
 -- The pentads, as equal steps; which of them is in force on a day.
 use Prim.Native.Nat.{ℕ, _+_, _*_, _/_, _%_, _≤_, _<_}
 use mathlib.Core.Path.{_≡_, refl, ap, subst, sym}
+use mathlib.Core.Logic.{_↔_}
+use native.Mathlib.Nat.{le-div-iff-mul-le, mul-pos}
 use native.Mathlib.Omega.{arith}
 use Rattle.calendar.specs.declared.data.Constants.{Constants}
 use Rattle.calendar.specs.Systems.{guantian, jiyuan}
@@ -11,48 +13,60 @@ use Rattle.calendar.specs.Consistent.{Consistent}
 use Rattle.calendar.specs.ClosedForms.{dayOfStep, pentadOn}
 use Rattle.calendar.proofs.Rising.{by-order}
 use Rattle.calendar.proofs.Reckoned.{year-some}
-use Rattle.calendar.proofs.Steps.{steps-close, step-day, step-zero, coarser-on-finer, ToldAlike, told-alike, moments-rise, counts-rise}
+use Rattle.calendar.proofs.Steps.{exact, steps-close, step-day, step-zero, coarser-on-finer, ToldAlike, told-alike, moments-rise, counts-rise}
 use Rattle.calendar.proofs.Steps.{first-step-day, step-is-last, step-is-before, step-after-it}
 
 -- The step of 002: 5 days, 876 parts and 4 thirty-sixths.
-pub guantian-pentad-step : step guantian 72 36 ≡ (5 * 12_030 + 876) * 36 + 4
+pub guantian-pentad-step : step guantian 72 (guantian .denominator) ≡ (5 * 12_030 + 876) * 36 + 4
 guantian-pentad-step = refl
 
 -- The step of 003: 5 days, 530 parts and 55 sixtieths.
-pub jiyuan-pentad-step : step jiyuan 72 60 ≡ (5 * 7290 + 530) * 60 + 55
+pub jiyuan-pentad-step : step jiyuan 72 (jiyuan .denominator) ≡ (5 * 7290 + 530) * 60 + 55
 jiyuan-pentad-step = refl
 
 module _ (c : Constants) (ok : Consistent c) where
-  -- Every third pentad is a qi, to the last unit.
-  pub every-third-is-a-qi : (n i : ℕ) → c .units * pentad c n (3 * i) ≡ c .fraction * qi c n i
-  every-third-is-a-qi n i =
-      coarser-on-finer c 3 24 (c .units) (c .fraction) (omega arith) (ok .qi-exact) (ok .pentads-exact) n i
+  -- Pentad p falls p seventy-seconds of Y after the solstice: 72 times its moment is 72 n + p years.
+  pub pentad-exact : (n p : ℕ) → 72 * pentad c n p ≡ (72 * n + p) * (c .year * c .denominator)
+  pentad-exact = exact c 72 (c .denominator) (ok .pentads-exact)
 
-  pub every-third-told-alike : (n i : ℕ) → ToldAlike c (c .units) (c .fraction) (pentad c n (3 * i)) (qi c n i)
+  -- Every third pentad is a qi, to the last unit.
+  pub every-third-is-a-qi : (n i : ℕ) → c .units * pentad c n (3 * i) ≡ c .denominator * qi c n i
+  every-third-is-a-qi n i =
+      coarser-on-finer c 3 24 (c .units) (c .denominator) (omega arith) (ok .qi-exact) (ok .pentads-exact) n i
+
+  pub every-third-told-alike : (n i : ℕ) → ToldAlike c (c .units) (c .denominator) (pentad c n (3 * i)) (qi c n i)
   every-third-told-alike n i =
-      told-alike c (c .units) (c .fraction) (pentad c n (3 * i)) (qi c n i) (ok .units-some) (ok .fraction-some) (every-third-is-a-qi n i)
+      told-alike c (c .units) (c .denominator) (pentad c n (3 * i)) (qi c n i) (ok .units-some) (ok .denominator-some) (every-third-is-a-qi n i)
 
   -- Pentad 72 of a year is pentad 0 of the next,
   pub pentads-close : (n : ℕ) → pentad c n 72 ≡ pentad c (n + 1) 0
-  pentads-close n = steps-close c 72 (c .fraction) (ok .pentads-exact) n
+  pentads-close n = steps-close c 72 (c .denominator) (ok .pentads-exact) n
 
   -- on whose day it falls,
   pub turn-of-the-year : (n : ℕ) → pentadDay c n 72 ≡ pentadDay c (n + 1) 0
-  turn-of-the-year n = ap (dayOf c (c .fraction)) (pentads-close n)
+  turn-of-the-year n = ap (dayOf c (c .denominator)) (pentads-close n)
 
   -- and which is the winter solstice.
   pub pentad-zero : (n : ℕ)
       → (pentadDay c n 0 ≡ solsticeDay c n)
-      × (partsOf c (c .fraction) (pentad c n 0) ≡ solsticeRemainder c n)
-      × (unitsOf (c .fraction) (pentad c n 0) ≡ 0)
-  pentad-zero n = step-zero c 72 (c .fraction) n (ok .fraction-some)
+      × (partsOf c (c .denominator) (pentad c n 0) ≡ solsticeRemainder c n)
+      × (unitsOf (c .denominator) (pentad c n 0) ≡ 0)
+  pentad-zero n = step-zero c 72 (c .denominator) n (ok .denominator-some)
 
   -- The day of a pentad, counted on from the epoch.
   pub pentad-day : (n p : ℕ) → pentadDay c n p ≡ dayOfStep c 72 (72 * n + p)
-  pentad-day n p = step-day c 72 (c .fraction) (ok .pentads-exact) (omega arith) (ok .fraction-some) n p
+  pentad-day n p = step-day c 72 (c .denominator) (ok .pentads-exact) (omega arith) (ok .denominator-some) n p
 
   -- On a day its pentad and no other is in force: the closed form.
   module _ (d : ℕ) where
+    -- it is the last h with h Y < 72 D (d + 1)
+    pub last-in-parts : (h : ℕ) → (h ≤ pentadOn c d) ↔ (h * c .year < 72 * c .solar * (d + 1))
+    last-in-parts h =
+        let some = mul-pos {m = 72 * c .solar} {n = d + 1} (omega (arith, ok .solar-some)) (omega arith) in (
+          λ l. omega (arith, le-div-iff-mul-le (year-some c ok) .0 l),
+          λ l. le-div-iff-mul-le (year-some c ok) .1 (omega arith),
+        )
+
     comes-up-to-it : (h : ℕ) → h ≤ pentadOn c d → dayOfStep c 72 h < d + 1
     comes-up-to-it h = step-is-before c 72 (omega arith) (ok .solar-some) (year-some c ok) (d + 1) (omega arith) h
 
@@ -63,12 +77,11 @@ module _ (c : Constants) (ok : Consistent c) where
     pub in-force : InForce c d (pentadOn c d / 72) (pentadOn c d % 72)
     in-force =
         let h = pentadOn c d in
-        let here : 72 * (h / 72) + h % 72 ≡ h = omega arith in
         record {
           is-pentad = omega arith;
           has-come = omega (arith, pentad-day (h / 72) (h % 72), comes-up-to-it (72 * (h / 72) + h % 72) (omega arith));
           is-last = λ m q is-pentad has-come.
-              moments-rise c 72 (c .fraction) (ok .pentads-exact) (omega arith) (ok .fraction-some) m q (h / 72) (h % 72)
+              moments-rise c 72 (c .denominator) (ok .pentads-exact) (omega arith) (ok .denominator-some) m q (h / 72) (h % 72)
               (omega (arith, up-to-it m q has-come));
         }
 
@@ -77,7 +90,7 @@ module _ (c : Constants) (ok : Consistent c) where
         let h = pentadOn c d in
         let no-later : 72 * n + p ≤ h = up-to-it n p (f .has-come) in
         let no-earlier : 72 * (h / 72) + h % 72 ≤ 72 * n + p =
-        counts-rise c 72 (c .fraction) (ok .pentads-exact) (omega arith) (ok .fraction-some) (h / 72) (h % 72) n p (year-some c ok)
+        counts-rise c 72 (c .denominator) (ok .pentads-exact) (omega arith) (ok .denominator-some) (h / 72) (h % 72) n p (year-some c ok)
         (f .is-last (h / 72) (h % 72) (omega arith) (in-force .has-come))
         in
         (omega (arith, f .is-pentad), omega (arith, f .is-pentad))
@@ -105,7 +118,7 @@ module _ (c : Constants) (ok : Consistent c) where
           is-pentad = is-pentad;
           has-come = has-come;
           is-last = λ m q is-other has-come.
-              moments-rise c 72 (c .fraction) (ok .pentads-exact) (omega arith) (ok .fraction-some) m q n p
+              moments-rise c 72 (c .denominator) (ok .pentads-exact) (omega arith) (ok .denominator-some) m q n p
               (omega (arith, up-to-it m q has-come));
         }
 

@@ -13,14 +13,14 @@ use Rattle.calendar.proofs.Division.{shared-factor}
 use Rattle.calendar.proofs.Steps.{steps-close, step-day, step-zero}
 
 -- The corrected step of 002: 15 days, 2,628 parts and 12 small units; its double step agrees.
-pub guantian-step : step guantian 24 36 ≡ (15 * 12_030 + 2628) * 36 + 12
+pub guantian-step : step guantian 24 (guantian .units) ≡ (15 * 12_030 + 2628) * 36 + 12
 guantian-step = refl
 
-pub guantian-double-step : 2 * step guantian 24 36 ≡ (30 * 12_030 + 5256) * 36 + 24
+pub guantian-double-step : 2 * step guantian 24 (guantian .units) ≡ (30 * 12_030 + 5256) * 36 + 24
 guantian-double-step = refl
 
 -- The step that 003 prints, 15 days, 1,592 parts and three quarters.
-pub jiyuan-step : step jiyuan 24 4 ≡ (15 * 7290 + 1592) * 4 + 3
+pub jiyuan-step : step jiyuan 24 (jiyuan .units) ≡ (15 * 7290 + 1592) * 4 + 3
 jiyuan-step = refl
 
 module _ (c : Constants) (ok : Consistent c) where

@@ -10,8 +10,8 @@ use Rattle.calendar.specs.Month.{monthHead, numberOf}
 abbrev pub monthOfDay : Constants → ℕ → ℕ
 monthOfDay c d = ((d + 1) * c .lunar - 1) / c .month
 
--- Equal steps, s to a year, are counted on from the epoch: h is s n + i for step i of year n, so that nothing needs a case
--- for the turn of the year. The day of step h, which falls h times Y by s from the epoch.
+-- Equal steps, s to a year, are counted on from the epoch: h is s n + i for step i of year n, so that nothing needs a
+-- case for the turn of the year. Step h falls h Y / s parts from the epoch, and so on this day.
 abbrev pub dayOfStep : Constants → ℕ → ℕ → ℕ
 dayOfStep c s h = h * c .year / (s * c .solar)
 
@@ -19,11 +19,11 @@ dayOfStep c s h = h * c .year / (s * c .solar)
 abbrev pub stepBefore : Constants → ℕ → ℕ → ℕ
 stepBefore c s d = (d * (s * c .solar) - 1) / c .year
 
--- The pentad in force at the end of day d: the last on a day before the next.
+-- The pentad in force at the end of day d, counted on from the epoch, 72 n + p: the last on a day before d + 1.
 abbrev pub pentadOn : Constants → ℕ → ℕ
 pentadOn c d = stepBefore c 72 (d + 1)
 
--- The day of middle qi g: they are twelve to a year.
+-- Middle qi are twelve to a year: g is 12 n + j for middle qi j of year n. The day of middle qi g.
 abbrev pub dayOfQi : Constants → ℕ → ℕ
 dayOfQi c g = dayOfStep c 12 g
 

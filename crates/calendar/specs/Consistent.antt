@@ -10,7 +10,7 @@ pub record Consistent (c : Constants) : Type 0 where
   pub solar-some : 0 < c .solar
   pub lunar-some : 0 < c .lunar
   pub units-some : 0 < c .units
-  pub fraction-some : 0 < c .fraction
+  pub denominator-some : 0 < c .denominator
   -- months of 29 days at least, twelve of 354 and thirteen of 383
   pub months-least : 354 * c .lunar ≤ 12 * c .month
   -- months of 30 days at most, twelve of 355 and thirteen of 384
@@ -21,7 +21,7 @@ pub record Consistent (c : Constants) : Type 0 where
   pub year-most : c .year ≤ 383 * c .solar
   -- no qi is rounded, and no pentad
   pub qi-exact : DividesYear c 24 (c .units)
-  pub pentads-exact : DividesYear c 72 (c .fraction)
+  pub pentads-exact : DividesYear c 72 (c .denominator)
   -- the name of count day 0 puts the names of register days on (r + 49) % 60
   pub names-agree : (c .anchor + c .name) % 60 ≡ 49
   -- years are counted from an epoch before common year 1: the years elapsed rise by one a year

@@ -3,14 +3,13 @@ use Prim.Native.Nat.{ℕ, _+_, _≤_, _<_}
 use Rattle.calendar.specs.declared.data.Constants.{Constants}
 use Rattle.calendar.specs.Steps.{solsticeDay, moment, dayOf}
 
--- Pentad p of year n, p from 0 to 71: p of 72 equal steps after T, in the units that a pentad's fraction is told in, with
--- nothing rounded.
+-- Pentad p of year n, p from 0 to 71: p of 72 equal steps after T, in 36ths or 60ths of a part, with nothing rounded.
 abbrev pub pentad : Constants → ℕ → ℕ → ℕ
-pentad c n p = moment c 72 (c .fraction) n p
+pentad c n p = moment c 72 (c .denominator) n p
 
 -- The day that its moment falls on.
 abbrev pub pentadDay : Constants → ℕ → ℕ → ℕ
-pentadDay c n p = dayOf c (c .fraction) (pentad c n p)
+pentadDay c n p = dayOf c (c .denominator) (pentad c n p)
 
 -- Pentad p of year n is in force at the end of day d: it is the last whose moment falls on that day or earlier.
 pub record InForce (c : Constants) (d n p : ℕ) : Type 0 where

@@ -24,7 +24,7 @@ step c s u = c .year * u / s
 abbrev pub DividesYear : Constants → ℕ → ℕ → Type 0
 DividesYear c s u = c .year * u % s ≡ 0
 
--- The moment i of s steps after the solstice, in units from the epoch.
+-- The moment of step i, i steps after the solstice, in units from the epoch.
 abbrev pub moment : Constants → ℕ → ℕ → ℕ → ℕ → ℕ
 moment c s u n i = solstice c n * u + i * step c s u
 

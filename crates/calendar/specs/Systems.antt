@@ -1,4 +1,4 @@
--- The two systems: paper 01, "Constants".
+-- The two systems: paper 01, "Constants", and of paper 02, Q-4, the denominator of a pentad's fraction.
 use Prim.Native.Nat.{ℕ, _+_, _-_}
 use mathlib.Core.Path.{_≡_}
 use mathlib.Core.Bool.{cond}
@@ -14,7 +14,7 @@ guantian =
       year = 4_393_880;
       month = 355_253;
       units = 36;
-      fraction = 36;
+      denominator = 36;
       elapsed = 5_944_808;
       common = 1092;
       name = 0;
@@ -30,7 +30,7 @@ jiyuan =
       year = 2_662_626;
       month = 215_278;
       units = 4;
-      fraction = 60;
+      denominator = 60;
       elapsed = 28_613_460;
       common = 1100;
       name = 15;

@@ -7,10 +7,10 @@ pub struct DayName(pub u8);
 // The place of a day in its year, from 1.
 pub struct Ordinal(pub u16);
 
-// What differs between two systems. Paper 01, "Constants", in the order of its rows.
+// What differs between two systems. Paper 01, "Constants", in the order of its rows, and paper 02, Q-4.
 pub struct Constants {
-    // Parts in a day, D: of those in which the year is counted, and of those in which the month is. No rule compares the
-    // two.
+    // Parts in a day, D: of those in which the year is counted, and of those in which the month is. No rule compares
+    // the two.
     pub solar: u64,
     pub lunar: u64,
     // Parts in a year, Y.
@@ -19,8 +19,8 @@ pub struct Constants {
     pub month: u64,
     // Small units in a part.
     pub units: u64,
-    // Units in a part, of those in which a pentad's fraction is told: 36 for 36ths. Paper 02, Q-4.
-    pub fraction: u64,
+    // The denominator of a pentad's fraction of a part: 36 where it is told in 36ths. Q-4.
+    pub denominator: u64,
     // Years elapsed, N, at the common year `common`.
     pub elapsed: u64,
     pub common: u64,

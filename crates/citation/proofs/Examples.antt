@@ -13,7 +13,7 @@ use Rattle.calendar.specs.ClosedForms.{firstMonth}
 use Rattle.calendar.specs.LeapMonth.{lastLeap}
 use Rattle.reckoning.specs.Filled.{filled}
 use Rattle.reckoning.specs.ComputedRefusals.{yearRefusal, stepRefusal}
-use Rattle.reckoning.specs.Requests.{solsticeOf, qiOf, pentadOf, pentadIn, pentadInForce, yearOf, monthsFrom}
+use Rattle.reckoning.specs.Requests.{solsticeOf, stepOf, qiOf, pentadOf, inForceIn, pentadInForce, yearOf, monthsFrom}
 use Rattle.reckoning.specs.Requests.{daysOf, monthOf, monthIn, dateOf, dateIn}
 use Rattle.citation.specs.Store.{judgeRegisterDay, judgeOrdinal, judgeDay, judgeName, judgeKind, lengthRight, judgeOf, refusalOf, toldOf, answerOf, storedInto}
 use Rattle.reckoning.specs.YearValue.{headIn, numberIn, leapIn}
@@ -24,11 +24,12 @@ pub data Question : Type 0 where
   -- how many parts a year's first new moon stands before the solstice, where solar and lunar parts are one; its day,
   -- name and remainder
   FirstMoon : ℕ → ℕ → Question
-  -- the day of a qi; how many days and how many parts it falls before the new moon of a month by its place from 1, where
-  -- solar and lunar parts are one
+  -- the day of a qi; how many days and how many parts it falls before the new moon of a month by its place from 1,
+  -- where solar and lunar parts are one
   Qi : ℕ → ℕ → ℕ → Question
   BeforeMoon : ℕ → ℕ → ℕ → ℕ → Question
-  -- a pentad: its refusal, day, the day's name, parts and units; the one in force on a register day: refusal, year, number
+  -- a pentad: its refusal, day, the day's name, parts and units; the one in force on a register day: refusal, year,
+  -- number
   Pentad : ℕ → ℕ → ℕ → Question
   InForceOn : ℕ → ℕ → Question
   -- a year's head, months and days
@@ -160,7 +161,8 @@ table =
     ∷ (Months 2 1108 gives (12 ∷ []))
     ∷ (Refusal (byDate 2 1107 11 1 1) gives (10 ∷ 10 ∷ []))
     ∷ (Refusal (byDate 2 1108 10 1 1) gives (10 ∷ 0 ∷ []))
-    -- Q-4: from the solstices of cases 1 and 7 one step, in 36ths and in 60ths; then one that is a qi, at three quarters
+    -- Q-4: from the solstices of cases 1 and 7 one step, in 36ths and in 60ths; then one that is a qi, at three
+    -- quarters
     ∷ (Pentad 1 1092 0 gives (0 ∷ 2_119_895 ∷ 24 ∷ 2320 ∷ 0 ∷ []))
     ∷ (Pentad 1 1092 1 gives (0 ∷ 2_119_900 ∷ 29 ∷ 3196 ∷ 4 ∷ []))
     ∷ (Pentad 2 1106 0 gives (0 ∷ 2_125_008 ∷ 37 ∷ 4536 ∷ 0 ∷ []))
@@ -182,6 +184,6 @@ table =
     ∷ []
 
 pub examples : map asked table ≡ map expected table
-unfolding answer asked expected table first-of-case-9 then byOrdinal byDate byName solsticeOf qiOf pentadOf pentadIn pentadInForce yearOf yearRefusal stepRefusal monthsFrom filled
+unfolding answer asked expected table first-of-case-9 then byOrdinal byDate byName solsticeOf stepOf inForceIn pentadInForce yearOf yearRefusal stepRefusal monthsFrom filled
     lastLeap refusalOf answerOf storedInto judgeOf lengthRight judgeKind judgeDay judgeName judgeOrdinal judgeRegisterDay daysOf monthOf monthIn dateOf dateIn
 examples = refl

@@ -1,9 +1,8 @@
 -- What is printed of pentads from its pieces.
-use Prim.Native.Nat.{ℕ, _+_, _≤_}
-use mathlib.Core.Path.{_≡_, subst, ap, sym, _∙_}
+use Prim.Native.Nat.{ℕ}
+use mathlib.Core.Path.{_≡_, subst}
 use mathlib.Core.Bool.{cond}
 use mathlib.Core.List.{List, [], _∷_, _++_}
-use native.Mathlib.Omega.{arith}
 use lib.Dec.{eqb}
 use borrow.Author.Tests.{eq-eqb, ne-eqb}
 use Rattle.reckoning.specs.declared.data.Moment.{Moment}
@@ -12,7 +11,7 @@ use Rattle.reckoning.specs.Requests.{pentadOf, pentadInForce}
 use Rattle.text.specs.Decimal.{decimal}
 use Rattle.text.specs.Piece.{word, letterOf, year, newline, line, refusedLine}
 use Rattle.text.specs.Wrote.{Wrote}
-use Rattle.text.proofs.Writing.{wrote-as, wrote-then}
+use Rattle.text.proofs.Writing.{wrote-then}
 use Rattle.text.proofs.Putting.{Puts}
 use Rattle.pages.specs.declared.steps.Steps.the-variants.{Pentads}
 use Rattle.pages.specs.StepLines.{stepLines}

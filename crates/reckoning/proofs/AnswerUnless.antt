@@ -1,9 +1,8 @@
 -- How a request's answer follows from what it stands on: one law for every request.
 use Prim.Native.Nat.{ℕ, _<_}
 use mathlib.Core.Path.{_≡_, refl, _∙_, subst, sym, ap}
-use mathlib.Core.Bool.{Bool, true, false, cond}
+use mathlib.Core.Bool.{Bool, true, false}
 use native.Mathlib.Omega.{arith}
-use lib.Dec.{eqb}
 use borrow.Author.Tests.{eq-eqb, ne-eqb}
 use Rattle.calendar.specs.declared.data.Constants.{Constants}
 use Rattle.reckoning.specs.declared.asked.Asked.{Asked}
@@ -12,14 +11,14 @@ use Rattle.reckoning.specs.ComputedRefusals.{outside, yearRefusal}
 use Rattle.reckoning.specs.RefusalNumbers.{SYSTEM}
 use Rattle.reckoning.proofs.RefusalCases.{in-scope, accepted}
 use Rattle.reckoning.specs.Asked.{askedOf}
-use Rattle.reckoning.specs.Requests.{answerUnless, answerOfSystem}
+use Rattle.reckoning.specs.Requests.{answerTo, answerUnless, answerOfSystem}
 use Rattle.reckoning.specs.WordBounds.{YearInRegister}
 use Rattle.reckoning.specs.Scope.{InScope}
 use Rattle.reckoning.proofs.ScopeInRegister.{year-in-register}
 
 module _ {A : Type 0} (answer : Constants → ℕ → A) (blank : ℕ → A) where
   abbrev answer-to : Asked → A
-  answer-to a = cond (eqb (a .refusal) 0) (answer (a .c) (a .n)) (blank (a .refusal))
+  answer-to a = answerTo a answer blank
 
   pub refused : (a b : Asked) → a ≡ b → (a .refusal ≡ 0 → ⊥) → blank (a .refusal) ≡ answer-to b
   refused a b e no-answer = subst (λ x. blank (a .refusal) ≡ answer-to x) e (simp (ne-eqb (a .refusal) 0 no-answer))

@@ -1,4 +1,5 @@
--- The answers for a solstice, a qi, a pentad and a day sheet hold what the reckoning says, in each system and year in scope.
+-- The answers for a solstice, a qi, a pentad and a day sheet hold what the reckoning says, in each system and year in
+-- scope.
 use Prim.Native.Nat.{ℕ, _+_, _*_, _-_, _≤_}
 use mathlib.Core.Path.{_≡_, refl, subst, subst₂, sym, ap, _∙_}
 use native.Mathlib.Omega.{arith}
@@ -7,8 +8,6 @@ use Rattle.calendar.specs.declared.data.Constants.{Constants}
 use Rattle.calendar.specs.Systems.{constantsOf, yearsElapsed, registerDay}
 use Rattle.calendar.specs.SixtyDayName.{nameOf}
 use Rattle.calendar.specs.Steps.{moment, dayOf, partsOf, unitsOf}
-use Rattle.calendar.specs.Qi.{qi}
-use Rattle.calendar.specs.Pentad.{pentad}
 use Rattle.calendar.specs.ClosedForms.{headOfYear}
 use Rattle.calendar.proofs.EachSystem.{consistent}
 use Rattle.calendar.proofs.Spans.{span}
@@ -16,17 +15,18 @@ use Rattle.calendar.proofs.Steps.{told}
 use Rattle.calendar.proofs.PentadLaws.{every-third-told-alike}
 use Rattle.calendar.proofs.NameLaws.{names-agree}
 use Rattle.reckoning.specs.Scope.{InScope}
-use Rattle.reckoning.specs.ComputedRefusals.{yearRefusal, qiRefusal, pentadRefusal}
+use Rattle.reckoning.specs.ComputedRefusals.{yearRefusal, stepRefusal}
+use Rattle.reckoning.specs.Divisions.{Division, qis, pentads}
 use Rattle.reckoning.specs.Asked.{askedOf}
 use Rattle.reckoning.specs.WordBounds.{StepFits, YearInRegister}
-use Rattle.reckoning.specs.Requests.{solsticeIn, noSolstice, solsticeOf, momentIn, noMoment, qiOf, pentadOf}
+use Rattle.reckoning.specs.Requests.{solsticeIn, noSolstice, solsticeOf, noMoment, stepIn, stepOf, qiOf, pentadOf}
 use Rattle.reckoning.specs.Requests.{nameAt, noNames, sheetIn, noSheet, sheetOf}
 use Rattle.reckoning.specs.AnswerMeanings.{IsSolstice, IsMoment, IsQi, IsPentad, SameMoment, IsSheet}
 use Rattle.reckoning.proofs.FilledLaws.{filled-below, filled-past, filled-length}
 use Rattle.reckoning.proofs.RefusalCases.{in-scope, in-scope-step}
 use Rattle.reckoning.proofs.ScopeInRegister.{year-in-register}
 use Rattle.reckoning.proofs.AnswerUnless.{answered}
-use Rattle.reckoning.proofs.StepLaws.{qi-fits, pentad-fits}
+use Rattle.reckoning.proofs.StepLaws.{Sound, qis-sound, pentads-sound, asked-fits}
 use Rattle.reckoning.proofs.RegisterLaws.{first-head, next-head, register-length-most}
 
 module _ (system year : ℕ) (s : InScope system year) where
@@ -47,9 +47,9 @@ module _ (system year : ℕ) (s : InScope system year) where
       (record { accepted = refl; day = omega (arith, r .solstice-day); remainder = refl })
 
   -- a step of the year, told
-  told-step : (k u i : ℕ) → StepFits c k u n i → IsMoment c u (moment c k u n i) (momentIn c u (moment c k u n i))
-  told-step k u i f =
-      let m = moment c k u n i in
+  told-step : (s u i : ℕ) → StepFits c s u n i → IsMoment c u (moment c s u n i) (stepIn s u i c n)
+  told-step s u i f =
+      let m = moment c s u n i in
       let t = told c u m (consistent system .solar-some) (f .units-some) in
       let exact : registerDay c (dayOf c u m) + c .anchor ≡ dayOf c u m = omega (arith, f .day) in
       record {
@@ -59,34 +59,37 @@ module _ (system year : ℕ) (s : InScope system year) where
         units-below = t .units-below;
       }
 
-  qi-answered : (i : ℕ) → i ≤ 23 → momentIn c (c .units) (qi c n i) ≡ qiOf system year i
-  unfolding qiOf
-  qi-answered i h =
-      answered (λ k m. momentIn k (k .units) (qi k m i)) noMoment (askedOf (qiRefusal system year i) system year) _ refl
-      (in-scope-step 23 system year i s h)
+  module _ (division : Division) (i : ℕ) (h : i ≤ division .last) where
+    accepted : stepRefusal (division .last) system year i ≡ 0
+    accepted = in-scope-step (division .last) system year i s h
+
+    step-answered : stepIn (division .steps) (division .units c) i c n ≡ stepOf division system year i
+    unfolding stepOf
+    step-answered =
+        answered (λ k m. stepIn (division .steps) (division .units k) i k m) noMoment
+        (askedOf (stepRefusal (division .last) system year i) system year)
+        _
+        refl
+        accepted
+
+    step-holds : Sound division
+        → IsMoment c (division .units c) (moment c (division .steps) (division .units c) n i) (stepOf division system year i)
+    step-holds sound =
+        subst (IsMoment c (division .units c) (moment c (division .steps) (division .units c) n i)) step-answered
+        (told-step (division .steps) (division .units c) i (asked-fits division sound system year i refl accepted))
 
   pub qi-holds : (i : ℕ) → i ≤ 23 → IsQi c n i (qiOf system year i)
-  qi-holds i h =
-      subst (IsQi c n i) (qi-answered i h)
-      (told-step 24 (c .units) i (qi-fits system year i refl (in-scope-step 23 system year i s h)))
-
-  pentad-answered : (p : ℕ) → p ≤ 71 → momentIn c (c .fraction) (pentad c n p) ≡ pentadOf system year p
-  unfolding pentadOf
-  pentad-answered p h =
-      answered (λ k m. momentIn k (k .fraction) (pentad k m p)) noMoment (askedOf (pentadRefusal system year p) system year) _ refl
-      (in-scope-step 71 system year p s h)
+  qi-holds i h = step-holds qis i h qis-sound
 
   pub pentad-holds : (p : ℕ) → p ≤ 71 → IsPentad c n p (pentadOf system year p)
-  pentad-holds p h =
-      subst (IsPentad c n p) (pentad-answered p h)
-      (told-step 72 (c .fraction) p (pentad-fits system year p refl (in-scope-step 71 system year p s h)))
+  pentad-holds p h = step-holds pentads p h pentads-sound
 
   -- Every third pentad is a qi, to the last unit.
   pub third-pentad-is-qi : (i : ℕ) → i ≤ 23 → SameMoment c (pentadOf system year (3 * i)) (qiOf system year i)
   third-pentad-is-qi i h =
       let t = every-third-told-alike c (consistent system) n i in
-      subst₂ (SameMoment c) (pentad-answered (3 * i) (omega arith)) (qi-answered i h)
-      (record { day = ap (registerDay c) (t .day); parts = t .parts; fractions = t .units })
+      subst₂ (SameMoment c) (step-answered pentads (3 * i) (omega arith)) (step-answered qis i h)
+      (record { day = ap (registerDay c) (t .day); parts = t .parts; units = t .units })
 
   pub sheet-holds : IsSheet c n (sheetOf system year)
   unfolding sheetOf sheetIn

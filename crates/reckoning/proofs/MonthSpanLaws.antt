@@ -17,8 +17,9 @@ use Rattle.calendar.proofs.Remainders.{partsInto, days-before, days-after, twel
 use Rattle.reckoning.specs.declared.closed_forms.LastStep.{LastStep}
 use Rattle.reckoning.specs.declared.month_spans.MonthSpan.{MonthSpan}
 use Rattle.reckoning.specs.Requests.{asRegisterDay, monthAt}
-use Rattle.reckoning.specs.MonthSpans.{lastStep, monthSpan, lastQi}
-use Rattle.reckoning.specs.WordBounds.{ConstantsFit, StepsFit, SpanFits}
+use Rattle.reckoning.specs.LastSteps.{lastStep}
+use Rattle.reckoning.specs.MonthSpans.{monthSpan, lastQi}
+use Rattle.reckoning.specs.WordBounds.{ConstantsFit, LastStepFits, SpanFits}
 
 -- A month with its bounds fits where its count does.
 pub span-fits : {c : Constants} {m : MonthSpan} (k : ℕ) → ConstantsFit c → m ≡ monthSpan c k → k + 2 < 2 ^ 32 → SpanFits c m
@@ -88,7 +89,7 @@ module _ {c : Constants} {m : MonthSpan} (s : SpanFits c m) where
   twelfths-fit h =
       record { fits = lt-of-le-of-lt (mul-le-mul-right (12 * c .solar) h) (omega (arith, s .constants-fit .solar-days)) }
 
-  pub next-found : StepsFit c 12 (m .next)
+  pub next-found : LastStepFits c 12 (m .next)
   next-found =
       record {
         constants-fit = s .constants-fit;

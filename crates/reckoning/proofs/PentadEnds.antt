@@ -1,23 +1,24 @@
--- How the request for the pentad in force ends, in the paper's words.
-use Prim.Native.Nat.{ℕ, _+_, _*_, _/_, _%_, _≤_}
-use mathlib.Core.Path.{_≡_, refl, subst}
+-- How the request for the pentad in force ends, in the paper's words, and that they settle the answer.
+use Prim.Native.Nat.{ℕ, _+_, _/_, _%_}
+use mathlib.Core.Path.{_≡_, refl, subst, sym, _∙_}
 use native.Mathlib.Omega.{arith}
 use Rattle.calendar.specs.Systems.{constantsOf, yearsElapsed}
 use Rattle.calendar.specs.Steps.{solsticeDay}
-use Rattle.calendar.specs.Pentad.{InForce}
+use Rattle.calendar.specs.Pentad.{InForce, InSolarYear}
 use Rattle.calendar.specs.ClosedForms.{pentadOn}
 use Rattle.calendar.proofs.EachSystem.{consistent}
-use Rattle.calendar.proofs.PentadLaws.{in-force, year-from, year-before}
-use Rattle.reckoning.specs.Scope.{SystemInScope, InScope, SolarDayInScope}
+use Rattle.calendar.proofs.PentadLaws.{in-force, only-in-force, year-from, year-before, solar-year}
+use Rattle.reckoning.specs.declared.data.PentadInForce.{PentadInForce}
+use Rattle.reckoning.specs.Scope.{SystemInScope, SolarDayInScope}
 use Rattle.reckoning.specs.CommonYears.{commonYearAt}
-use Rattle.reckoning.specs.Requests.{pentadAt, pentadIn, pentadInForce}
+use Rattle.reckoning.specs.Requests.{inForceAt, inForceIn, pentadInForce}
 use Rattle.reckoning.specs.Outcomes as O
 use Rattle.reckoning.proofs.RefusalCases.{by-inside}
 use Rattle.reckoning.proofs.YearOfDay.{by-years}
 
 -- On a day in scope.
 found-pentad : (system r : ℕ) → SystemInScope system → SolarDayInScope system r
-    → O.PentadOutcome system r (pentadAt (constantsOf system) (r + constantsOf system .anchor))
+    → O.PentadOutcome system r (inForceAt (constantsOf system) (r + constantsOf system .anchor))
 found-pentad system r system-inside p =
     let c = constantsOf system in
     let ok = consistent system in
@@ -32,11 +33,12 @@ found-pentad system r system-inside p =
       in-scope = record { system-inside = system-inside; year-inside = record { at-least = omega arith; at-most = omega arith } };
       day-in-scope = p;
       not-refused = refl;
+      in-year = subst (λ m. InSolarYear c m d) same (solar-year c ok d);
       in-force = subst (λ m. InForce c d m (pentadOn c d % 72)) same (in-force c ok d);
     })
 
 pub pentad-outcome : (system r : ℕ) → O.PentadOutcome system r (pentadInForce system r)
-unfolding pentadInForce pentadIn
+unfolding pentadInForce inForceIn
 pentad-outcome system r =
     let c = constantsOf system in
     by-inside 1 2 system
@@ -47,3 +49,28 @@ pentad-outcome system r =
     (λ f w.
     subst (O.PentadOutcome system r) (simp (e, f))
     (found-pentad system r system-inside (record { from = w .0; before = w .1 }))))
+
+-- There is no other answer that ends so.
+one-found : (system r : ℕ) (v w : PentadInForce) → O.PentadFound system r v → O.PentadFound system r w → v ≡ w
+one-found system r v w a b =
+    let c = constantsOf system in
+    let ok = consistent system in
+    let d = r + c .anchor in
+    let here = only-in-force c ok d (yearsElapsed c (v .year)) (v .pentad) (a .in-force) in
+    let there = only-in-force c ok d (yearsElapsed c (w .year)) (w .pentad) (b .in-force) in
+    let epoch = ok .epoch-before in
+    let refusal : v .refusal ≡ w .refusal = omega (arith, a .not-refused, b .not-refused) in
+    let year : v .year ≡ w .year = omega (arith, here .0, there .0, a .in-scope .year-inside, b .in-scope .year-inside) in
+    let pentad : v .pentad ≡ w .pentad = omega (arith, here .1, there .1) in
+    λ j. record { refusal = refusal j; year = year j; pentad = pentad j }
+
+pub one-outcome : (system r : ℕ) (v w : PentadInForce) → O.PentadOutcome system r v → O.PentadOutcome system r w → v ≡ w
+one-outcome system r v w (O.PentadOutcome.system-refused a e) (O.PentadOutcome.system-refused b f) = e ∙ sym f
+one-outcome system r v w (O.PentadOutcome.system-refused a e) (O.PentadOutcome.day-refused s b f) = absurd (a s)
+one-outcome system r v w (O.PentadOutcome.system-refused a e) (O.PentadOutcome.found g) = absurd (a (g .in-scope .system-inside))
+one-outcome system r v w (O.PentadOutcome.day-refused s a e) (O.PentadOutcome.system-refused b f) = absurd (b s)
+one-outcome system r v w (O.PentadOutcome.day-refused s a e) (O.PentadOutcome.day-refused t b f) = e ∙ sym f
+one-outcome system r v w (O.PentadOutcome.day-refused s a e) (O.PentadOutcome.found g) = absurd (a (g .day-in-scope))
+one-outcome system r v w (O.PentadOutcome.found g) (O.PentadOutcome.system-refused b f) = absurd (b (g .in-scope .system-inside))
+one-outcome system r v w (O.PentadOutcome.found g) (O.PentadOutcome.day-refused t b f) = absurd (b (g .day-in-scope))
+one-outcome system r v w (O.PentadOutcome.found g) (O.PentadOutcome.found h) = one-found system r v w g h

@@ -8,9 +8,9 @@ use Rattle.calendar.proofs.PentadLaws.{year-from, year-before}
 use Rattle.reckoning.specs.declared.closed_forms.LastStep.{LastStep}
 use Rattle.reckoning.specs.declared.data.PentadInForce.{PentadInForce}
 use Rattle.reckoning.specs.CommonYears.{commonYear}
-use Rattle.reckoning.specs.MonthSpans.{lastStep}
+use Rattle.reckoning.specs.LastSteps.{lastStep}
 use Rattle.reckoning.specs.RefusalNumbers.{DAY}
-use Rattle.reckoning.specs.Requests.{noPentad, pentadIn}
+use Rattle.reckoning.specs.Requests.{noneInForce, inForceIn}
 use Rattle.reckoning.specs.WordBounds.{ConstantsFit}
 use Rattle.reckoning.proofs.YearOfDay.{in-time, day-outside, day-inside}
 
@@ -26,8 +26,8 @@ module _ {c : Constants} (fit : ConstantsFit c) (r : ℕ) {last : LastStep} (fou
     common-is : year ≡ commonYear c (pentadOn c d / 72)
     common-is = is ∙ ap (λ h. commonYear c (h / 72)) step-is
 
-    pub pentad-outside : {v : PentadInForce} → v ≡ noPentad DAY → year ≡ 0 → v ≡ pentadIn c r
-    unfolding pentadIn
+    pub pentad-outside : {v : PentadInForce} → v ≡ noneInForce DAY → year ≡ 0 → v ≡ inForceIn c r
+    unfolding inForceIn
     pentad-outside e none =
         e
         ∙ simp (day-outside c (fit .consistent .epoch-before) (solsticeDay c) r (pentadOn c d / 72)
@@ -35,8 +35,8 @@ module _ {c : Constants} (fit : ConstantsFit c) (r : ℕ) {last : LastStep} (fou
         (year-before c (fit .consistent) d)
         (sym common-is ∙ none))
 
-    pub pentad-inside : (year ≡ 0 → ⊥) → record { refusal = 0; year = year; pentad = last .step % 72 } ≡ pentadIn c r
-    unfolding pentadIn
+    pub pentad-inside : (year ≡ 0 → ⊥) → record { refusal = 0; year = year; pentad = last .step % 72 } ≡ inForceIn c r
+    unfolding inForceIn
     pentad-inside some =
         let some-year : commonYear c (pentadOn c d / 72) ≡ 0 → ⊥ = λ z. some (common-is ∙ z) in
         let year-here = common-is ∙ in-time c (pentadOn c d / 72) some-year .is in

@@ -4,13 +4,12 @@ use mathlib.Core.Path.{_≡_, refl, sym, _∙_}
 use mathlib.Core.Logic.{inl, inr}
 use native.Mathlib.Omega.{arith}
 use Rattle.calendar.specs.declared.data.Constants.{Constants}
-use Rattle.calendar.specs.Qi.{qi}
-use Rattle.calendar.specs.Pentad.{pentad}
 use Rattle.calendar.proofs.Rising.{by-order}
 use Rattle.reckoning.specs.WordedRefusals.{FirstOf, yearRows, stepRows, qiRows, pentadRows}
 use Rattle.reckoning.specs.ComputedRefusals.{yearRefusal, stepRefusal, qiRefusal, pentadRefusal}
+use Rattle.reckoning.specs.Divisions.{Division, qis, pentads}
 use Rattle.reckoning.specs.Asked.{askedOf}
-use Rattle.reckoning.specs.Requests.{answerUnless, solsticeIn, noSolstice, solsticeOf, momentIn, noMoment, qiOf, pentadOf}
+use Rattle.reckoning.specs.Requests.{answerUnless, solsticeIn, noSolstice, solsticeOf, noMoment, stepIn, stepOf, qiOf, pentadOf}
 use Rattle.reckoning.specs.Requests.{yearIn, noYear, yearOf, sheetIn, noSheet, sheetOf}
 use Rattle.reckoning.proofs.RefusalCases.{by-scope, in-scope, in-scope-step, step-unseen, step-refused}
 use Rattle.reckoning.proofs.AnswerUnless.{refused}
@@ -63,13 +62,15 @@ module _ (system year : ℕ) (some : yearRefusal system year ≡ 0 → ⊥) wher
   unfolding sheetOf
   sheet-blank = blank-given sheetIn noSheet (yearRefusal system year) system year some
 
+step-blank : (division : Division) (system year i : ℕ) → (stepRefusal (division .last) system year i ≡ 0 → ⊥)
+    → stepOf division system year i ≡ noMoment (stepRefusal (division .last) system year i)
+unfolding stepOf
+step-blank division system year i some =
+    blank-given (λ c n. stepIn (division .steps) (division .units c) i c n) noMoment (stepRefusal (division .last) system year i) system year some
+
 pub qi-blank : (system year i : ℕ) → (qiRefusal system year i ≡ 0 → ⊥) → qiOf system year i ≡ noMoment (qiRefusal system year i)
-unfolding qiOf
-qi-blank system year i some =
-    blank-given (λ c n. momentIn c (c .units) (qi c n i)) noMoment (qiRefusal system year i) system year some
+qi-blank = step-blank qis
 
 pub pentad-blank : (system year p : ℕ) → (pentadRefusal system year p ≡ 0 → ⊥)
     → pentadOf system year p ≡ noMoment (pentadRefusal system year p)
-unfolding pentadOf
-pentad-blank system year p some =
-    blank-given (λ c n. momentIn c (c .fraction) (pentad c n p)) noMoment (pentadRefusal system year p) system year some
+pentad-blank = step-blank pentads

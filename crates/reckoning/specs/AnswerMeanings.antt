@@ -1,5 +1,5 @@
--- What the answers for a solstice, a qi, a pentad and a day sheet hold, in the paper's words. A register day is a count day less
--- the anchor.
+-- What the answers for a solstice, a qi, a pentad and a day sheet hold, in the paper's words. A register day is a count
+-- day less the anchor.
 use Prim.Native.Nat.{ℕ, _+_, _*_, _≤_, _<_}
 use mathlib.Core.Path.{_≡_}
 use lib.ListN.{length, getD}
@@ -33,13 +33,14 @@ IsQi c n i v = IsMoment c (c .units) (qi c n i) v
 
 -- Pentad p of year n, in the units of its fraction.
 abbrev pub IsPentad : Constants → ℕ → ℕ → Moment → Type 0
-IsPentad c n p v = IsMoment c (c .fraction) (pentad c n p) v
+IsPentad c n p v = IsMoment c (c .denominator) (pentad c n p) v
 
--- A pentad and a qi that are one moment: the same day and parts, and units that are the same fraction of a part.
-pub record SameMoment (c : Constants) (pentad qi : Moment) : Type 0 where
-  pub day : pentad .day .0 ≡ qi .day .0
-  pub parts : pentad .parts ≡ qi .parts
-  pub fractions : c .units * pentad .units ≡ c .fraction * qi .units
+-- A pentad p and a qi q that are one moment: the same day and parts, and the same fraction of a part, that of p being
+-- its units by the denominator and that of q its small units by those in a part.
+pub record SameMoment (c : Constants) (p q : Moment) : Type 0 where
+  pub day : p .day .0 ≡ q .day .0
+  pub parts : p .parts ≡ q .parts
+  pub units : c .units * p .units ≡ c .denominator * q .units
 
 -- The names of the days of year n, by the name of count day 0, and 255 past the year's end.
 pub record IsSheet (c : Constants) (n : ℕ) (v : Sheet) : Type 0 where

@@ -8,10 +8,14 @@ pub mod RefusalNumbers
 pub mod WordedRefusals
 -- Refusals as they are computed: the first rule that applies.
 pub mod ComputedRefusals
+-- The divisions of a year that can be asked for: qi and pentads.
+pub mod Divisions
 -- What a request by system and year stands on.
 pub mod Asked
 -- Common years told from years elapsed.
 pub mod CommonYears
+-- Steps as the code finds them.
+pub mod LastSteps
 -- Months as the code has them.
 pub mod MonthSpans
 -- What each request answers.

@@ -3,7 +3,7 @@ use Prim.Native.Nat.{ℕ, _+_, _-_}
 use mathlib.Core.Path.{_≡_}
 use Rattle.calendar.specs.Inside.{Inside}
 use Rattle.calendar.specs.Systems.{constantsOf, yearsElapsed, IsRegisterDay}
-use Rattle.calendar.specs.Pentad.{InForce}
+use Rattle.calendar.specs.Pentad.{InForce, InSolarYear}
 use Rattle.calendar.specs.Month.{monthHead, InMonth, monthLength}
 use Rattle.calendar.specs.Year.{Span, yearHead, yearLength, MonthNumbered, LeapNumber}
 use Rattle.reckoning.specs.declared.data.Days.{Days}
@@ -12,7 +12,7 @@ use Rattle.reckoning.specs.declared.data.Date.{Date}
 use Rattle.reckoning.specs.declared.data.PentadInForce.{PentadInForce}
 use Rattle.reckoning.specs.Scope.{SystemInScope, YearInScope, InScope, NoSuchMonth, NotLeap, DayInScope, SolarDayInScope}
 use Rattle.reckoning.specs.RefusalNumbers.{SYSTEM, YEAR, MONTH, DAY, LEAP}
-use Rattle.reckoning.specs.Requests.{noDays, noMonth, noMonthTelling, noDate, noPentad}
+use Rattle.reckoning.specs.Requests.{noDays, noMonth, noMonthTelling, noDate, noneInForce}
 
 -- The days of a year, answered: its head and its length.
 pub record DaysFound (system year : ℕ) (v : Days) : Type 0 where
@@ -74,15 +74,17 @@ pub data DateOutcome (system r : ℕ) (v : Date) : Type 0 where
   day-refused : SystemInScope system → (DayInScope system r → ⊥) → v ≡ noDate DAY → DateOutcome system r v
   found : DateFound system r v → DateOutcome system r v
 
--- The pentad in force at the end of a register day, answered: of a year in scope.
+-- The pentad in force at the end of a register day, answered: its year, a year in scope between whose solstice days the
+-- day lies, and its number.
 pub record PentadFound (system r : ℕ) (v : PentadInForce) : Type 0 where
   pub in-scope : InScope system (v .year)
   pub day-in-scope : SolarDayInScope system r
   pub not-refused : v .refusal ≡ 0
+  pub in-year : InSolarYear (constantsOf system) (yearsElapsed (constantsOf system) (v .year)) (r + constantsOf system .anchor)
   pub in-force : InForce (constantsOf system) (r + constantsOf system .anchor) (yearsElapsed (constantsOf system) (v .year)) (v .pentad)
 
 -- Refused SYSTEM, then DAY; or answered.
 pub data PentadOutcome (system r : ℕ) (v : PentadInForce) : Type 0 where
-  system-refused : (SystemInScope system → ⊥) → v ≡ noPentad SYSTEM → PentadOutcome system r v
-  day-refused : SystemInScope system → (SolarDayInScope system r → ⊥) → v ≡ noPentad DAY → PentadOutcome system r v
+  system-refused : (SystemInScope system → ⊥) → v ≡ noneInForce SYSTEM → PentadOutcome system r v
+  day-refused : SystemInScope system → (SolarDayInScope system r → ⊥) → v ≡ noneInForce DAY → PentadOutcome system r v
   found : PentadFound system r v → PentadOutcome system r v

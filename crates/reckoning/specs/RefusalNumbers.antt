@@ -1,4 +1,5 @@
--- The numbers of the refusals: paper 01, "Numbered refusals", and paper 02, Q-3 and Q-4. Each name says what is wrong, as in include/chiselbrow.h.
+-- The numbers of the refusals: paper 01, "Numbered refusals", and paper 02, Q-3 and Q-4. Each name says what is wrong,
+-- as in include/chiselbrow.h.
 use Prim.Native.Nat.{ℕ}
 
 -- The input is too short to be a record.

@@ -9,8 +9,6 @@ use Rattle.calendar.specs.declared.data.RegisterDay.{RegisterDay}
 use Rattle.calendar.specs.Systems.{constantsOf, yearsElapsed, registerDay}
 use Rattle.calendar.specs.SixtyDayName.{nameOf}
 use Rattle.calendar.specs.Steps.{solsticeDay, solsticeRemainder, moment, dayOf, partsOf, unitsOf}
-use Rattle.calendar.specs.Qi.{qi}
-use Rattle.calendar.specs.Pentad.{pentad}
 use Rattle.calendar.specs.Month.{monthHead}
 use Rattle.calendar.specs.ClosedForms.{pentadOn, monthOfDay, firstMonth, headOfYear, yearOfMonth, monthNumber, leapMark, monthCited}
 use Rattle.calendar.specs.LeapMonth.{leapNumber}
@@ -23,20 +21,25 @@ use Rattle.reckoning.specs.declared.data.Sheet.{Sheet}
 use Rattle.reckoning.specs.declared.data.Month.{Month}
 use Rattle.reckoning.specs.declared.data.Days.{Days}
 use Rattle.reckoning.specs.declared.data.Date.{Date}
-use Rattle.reckoning.specs.ComputedRefusals.{outside, yearRefusal, qiRefusal, pentadRefusal}
+use Rattle.reckoning.specs.ComputedRefusals.{outside, yearRefusal, stepRefusal}
 use Rattle.reckoning.specs.ComputedRefusals.{monthWrong, leapWrong, dayWrong, solarDayWrong}
 use Rattle.reckoning.specs.RefusalNumbers.{SYSTEM, MONTH, DAY, LEAP}
+use Rattle.reckoning.specs.Asked.{askedOf}
+use Rattle.reckoning.specs.Divisions.{Division, qis, pentads}
 use Rattle.reckoning.specs.CommonYears.{commonYearAt}
 use Rattle.reckoning.specs.Filled.{filled}
 
 abbrev pub asRegisterDay : ℕ → RegisterDay
 asRegisterDay r = record { 0 = r }
 
--- A request by system and year: answered by the system's constants for the years elapsed unless there is a refusal, and
--- then by the blank answer with its number.
+-- What is asked is answered by the system's constants for the years elapsed unless there is a refusal, and then by the
+-- blank answer with its number.
+abbrev pub answerTo : {A : Type 0} → Asked → (Constants → ℕ → A) → (ℕ → A) → A
+answerTo asked answer blank = cond (eqb (asked .refusal) 0) (answer (asked .c) (asked .n)) (blank (asked .refusal))
+
+-- So is a request by system and year.
 abbrev pub answerUnless : {A : Type 0} → ℕ → ℕ → ℕ → (Constants → ℕ → A) → (ℕ → A) → A
-answerUnless refusal system year answer blank =
-    cond (eqb refusal 0) (answer (constantsOf system) (yearsElapsed (constantsOf system) year)) (blank refusal)
+answerUnless refusal system year answer blank = answerTo (askedOf refusal system year) answer blank
 
 -- A request by system and register day: refused SYSTEM where there is no such system, or answered by its constants.
 abbrev pub answerOfSystem : {A : Type 0} → ℕ → (Constants → A) → (ℕ → A) → A
@@ -61,19 +64,22 @@ momentIn c u m =
 abbrev pub noMoment : ℕ → Moment
 noMoment refusal = record { refusal = refusal; day = asRegisterDay 0; parts = 0; units = 0 }
 
--- Step i of the year asked for, of s equal ones.
-abbrev pub stepAnswer : Asked → ℕ → ℕ → ℕ → Moment
-stepAnswer asked s u i =
-    cond (eqb (asked .refusal) 0) (momentIn (asked .c) u (moment (asked .c) s u (asked .n) i)) (noMoment (asked .refusal))
+-- Step i of year n, of s equal ones.
+abbrev pub stepIn : ℕ → ℕ → ℕ → Constants → ℕ → Moment
+stepIn s u i c n = momentIn c u (moment c s u n i)
 
--- Qi i of a year, in small units.
-unfoldable pub qiOf : ℕ → ℕ → ℕ → Moment
-qiOf system year i = answerUnless (qiRefusal system year i) system year (λ c n. momentIn c (c .units) (qi c n i)) noMoment
+-- Step i of a year, by a division.
+unfoldable pub stepOf : Division → ℕ → ℕ → ℕ → Moment
+stepOf division system year i =
+    answerUnless (stepRefusal (division .last) system year i) system year
+    (λ c n. stepIn (division .steps) (division .units c) i c n)
+    noMoment
 
--- Pentad p of a year, in the units of its fraction.
-unfoldable pub pentadOf : ℕ → ℕ → ℕ → Moment
-pentadOf system year p =
-    answerUnless (pentadRefusal system year p) system year (λ c n. momentIn c (c .fraction) (pentad c n p)) noMoment
+abbrev pub qiOf : ℕ → ℕ → ℕ → Moment
+qiOf system year i = stepOf qis system year i
+
+abbrev pub pentadOf : ℕ → ℕ → ℕ → Moment
+pentadOf system year p = stepOf pentads system year p
 
 -- The months of year n in order: their heads with the next year's head after them, their numbers and leap marks; 0 in
 -- unused places. Refused: count, heads, numbers and marks all 0.
@@ -196,16 +202,16 @@ dateIn c r = cond (dayWrong c r) (noDate DAY) (dateAt c (r + c .anchor))
 unfoldable pub dateOf : ℕ → ℕ → Date
 dateOf system r = answerOfSystem system (λ c. dateIn c r) noDate
 
--- The pentad in force at the end of a register day, and its year, counted from solstice to solstice; DAY outside years 1
--- to 3000 so counted. Refused: zeros.
-abbrev pub pentadAt : Constants → ℕ → PentadInForce
-pentadAt c d = record { refusal = 0; year = commonYearAt c (pentadOn c d / 72); pentad = pentadOn c d % 72 }
+-- The pentad in force at the end of a register day, and its year, counted from solstice to solstice; DAY outside years
+-- 1 to 3000 so counted. Refused: zeros.
+abbrev pub inForceAt : Constants → ℕ → PentadInForce
+inForceAt c d = record { refusal = 0; year = commonYearAt c (pentadOn c d / 72); pentad = pentadOn c d % 72 }
 
-abbrev pub noPentad : ℕ → PentadInForce
-noPentad refusal = record { refusal = refusal; year = 0; pentad = 0 }
+abbrev pub noneInForce : ℕ → PentadInForce
+noneInForce refusal = record { refusal = refusal; year = 0; pentad = 0 }
 
-unfoldable pub pentadIn : Constants → ℕ → PentadInForce
-pentadIn c r = cond (solarDayWrong c r) (noPentad DAY) (pentadAt c (r + c .anchor))
+unfoldable pub inForceIn : Constants → ℕ → PentadInForce
+inForceIn c r = cond (solarDayWrong c r) (noneInForce DAY) (inForceAt c (r + c .anchor))
 
 unfoldable pub pentadInForce : ℕ → ℕ → PentadInForce
-pentadInForce system r = answerOfSystem system (λ c. pentadIn c r) noPentad
+pentadInForce system r = answerOfSystem system (λ c. inForceIn c r) noneInForce

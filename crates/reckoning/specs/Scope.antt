@@ -36,7 +36,8 @@ pub record SolarDayInScope (system r : ℕ) : Type 0 where
   pub from : solsticeDay (constantsOf system) (yearsElapsed (constantsOf system) 1) ≤ r + constantsOf system .anchor
   pub before : r + constantsOf system .anchor < solsticeDay (constantsOf system) (yearsElapsed (constantsOf system) 3001)
 
--- The register days of years 1 to 3000, by the heads of years 1 and 3001; refusal DAY is for any other.
+-- The register days of years 1 to 3000, by the heads of years 1 and 3001; a citation by register day and a request for
+-- a date are refused DAY for any other.
 pub record DayInScope (system r : ℕ) : Type 0 where
   pub first : Span (constantsOf system) (yearsElapsed (constantsOf system) 1)
   pub past : Span (constantsOf system) (yearsElapsed (constantsOf system) 3001)

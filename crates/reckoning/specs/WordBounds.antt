@@ -1,4 +1,5 @@
--- Bounds of machine words, under which the code's numbers fit; every year in scope keeps them (see `year-in-register`).
+-- Bounds of machine words, under which the code's numbers fit. Each system's constants and every year in scope keep
+-- them (see `constants-fit`, `year-in-register`), and so do all register days of 32 bits.
 use Prim.Native.Nat.{ℕ, _+_, _*_, _^_, _≤_, _<_}
 use mathlib.Core.Path.{_≡_}
 use Rattle.calendar.specs.declared.data.Constants.{Constants}
@@ -9,11 +10,11 @@ use Rattle.calendar.specs.ClosedForms.{firstMonth}
 use Rattle.reckoning.specs.declared.month_spans.MonthSpan.{MonthSpan}
 use Rattle.reckoning.specs.MonthSpans.{monthSpan}
 
--- Products of the constants with counts of months, days, years and middle qi.
+-- Products of the constants with counts of months, days, years and steps of a year, up to 72.
 pub record ConstantsFit (c : Constants) : Type 0 where
   pub consistent : Consistent c
   pub units-small : c .units < 2 ^ 32
-  pub fraction-small : c .fraction < 2 ^ 32
+  pub denominator-small : c .denominator < 2 ^ 32
   pub lunar-days : 2 ^ 38 * c .lunar < 2 ^ 63
   pub solar-days : 2 ^ 38 * (72 * c .solar) < 2 ^ 63
   pub months : 2 ^ 32 * c .month < 2 ^ 63
@@ -39,7 +40,7 @@ pub record YearInRegister (c : Constants) (n : ℕ) : Type 0 where
   pub months : firstMonth c (n + 1) < 2 ^ 31
   pub solstice-small : solstice c n < 2 ^ 62
   pub next-in-units : solstice c (n + 1) * c .units < 2 ^ 62
-  pub next-in-fractions : solstice c (n + 1) * c .fraction < 2 ^ 62
+  pub next-in-pentad-units : solstice c (n + 1) * c .denominator < 2 ^ 62
   pub solstice-day : InRegister c (solsticeDay c n)
   pub next-solstice-day : InRegister c (solsticeDay c (n + 1))
   pub head : (k : ℕ) → firstMonth c n ≤ k → k ≤ firstMonth c (n + 1) → InRegister c (monthHead c k)
@@ -55,8 +56,8 @@ pub record StepFits (c : Constants) (s u n i : ℕ) : Type 0 where
   pub moment-small : moment c s u n i < 2 ^ 62
   pub day : InRegister c (dayOf c u (moment c s u n i))
 
--- A day that can be counted in parts by s, as the last of s equal steps a year before it is found.
-pub record StepsFit (c : Constants) (s d : ℕ) : Type 0 where
+-- A day before which the last of s equal steps a year can be found.
+pub record LastStepFits (c : Constants) (s d : ℕ) : Type 0 where
   pub constants-fit : ConstantsFit c
   pub steps-some : 0 < s
   pub steps-most : s ≤ 72

@@ -1,16 +1,17 @@
-// Years, days and numbers, over the constants of one system. The bounds that each function asks for keep its numbers
-// within 64 bits; every year in scope meets them.
+// Years, days, steps and numbers, over the constants of one system. The bounds that each function asks for keep its
+// numbers within 64 bits; every year in scope and every register day meets them.
 ghost use mathlib.Core.Path.{_≡_};
 ghost use Prim.Native.Nat.{_%_, _<_, _^_};
 ghost use Rattle.calendar.specs.Systems.{yearsElapsed, registerDay};
 ghost use Rattle.calendar.specs.Month.{monthHead, numberOf};
 ghost use Rattle.calendar.specs.ClosedForms.{dayOfQi};
 ghost use Rattle.reckoning.specs.CommonYears.{commonYear};
-ghost use Rattle.reckoning.specs.MonthSpans.{lastStep};
-ghost use Rattle.reckoning.specs.WordBounds.{ConstantsFit, StepsFit, InRegister};
+ghost use Rattle.reckoning.specs.LastSteps.{lastStep};
+ghost use Rattle.reckoning.specs.WordBounds.{ConstantsFit, LastStepFits, InRegister};
 use calendar::data::Constants;
 use calendar::data::RegisterDay;
 
+// A step counted on from the epoch, and what the division that finds it leaves over.
 pub(crate) struct LastStep {
     pub step: u64,
     pub left: u64,
@@ -48,10 +49,10 @@ pub(crate) fn day_of_qi(c: Constants, g: u64) -> u64
     g * c.year / (12 * c.solar)
 }
 
-// The last of `steps` equal steps a year on a day before d, counted on from the epoch; and what is then left up to d, of
-// parts by `steps`, less 1.
+// The last of `steps` equal steps a year on a day before d. A year is counted in Y times `steps` of a part, a day in D
+// times as many, so that all is whole.
 pub(crate) fn last_step(c: Constants, steps: u64, d: u64) -> LastStep
-    requires { ⌜ StepsFit c steps d ⌝ }
+    requires { ⌜ LastStepFits c steps d ⌝ }
     ensures { λ r. ⌜ r ≡ lastStep c steps d ⌝ }
 {
     let end = d * (steps * c.solar) - 1;

@@ -8,8 +8,8 @@ pub struct Solstice {
     pub remainder: u32,
 }
 
-// The moment of a qi or of a pentad: its day, and the parts and units left over of it. Units are a qi's small units, and of
-// a pentad those in which its fraction is told.
+// The moment of a qi or of a pentad: its day, and the parts and units left over of it. Units are a qi's small units,
+// and of a pentad those in which its fraction is told.
 pub struct Moment {
     pub refusal: u8,
     pub day: RegisterDay,
@@ -17,8 +17,8 @@ pub struct Moment {
     pub units: u32,
 }
 
-// The pentad in force at the end of a day, and its year, counted from solstice to solstice. The number has 32 bits for the
-// reason that a date's year has.
+// The pentad in force at the end of a day, and its year, counted from solstice to solstice. The number has 32 bits for
+// the reason that a date's year has.
 pub struct PentadInForce {
     pub refusal: u8,
     pub year: u32,

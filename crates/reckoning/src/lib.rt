@@ -1,8 +1,8 @@
 // The requests by system and year: solstice, qi, pentad, months, days and day sheet; one month; the date, the pentad in
 // force and the name of a day.
 //
-// System, year, qi and pentad number come as 32 bits, so that no number is cut before it can be refused. A refused request
-// gives a blank answer that carries the refusal number, and with LEAP the number of the year's leap month.
+// System, year, qi and pentad number come as 32 bits, so that no number is cut before it can be refused. A refused
+// request gives a blank answer that carries the refusal number, and with LEAP the number of the year's leap month.
 ghost use mathlib.Core.Path.{_≡_};
 ghost use Rattle.calendar.specs.Systems.{constantsOf, yearsElapsed};
 ghost use Rattle.calendar.specs.SixtyDayName.{nameOf};
@@ -66,7 +66,7 @@ pub fn pentad(system: u32, year: u32, p: u32) -> Moment
     ensures { λ r. ⌜ r ≡ pentadOf system year p ⌝ }
 {
     let asked = asked::of_step(system, year, 71, p);
-    solar::answer(asked, 72, asked.c.fraction, p)
+    solar::answer(asked, 72, asked.c.denominator, p)
 }
 
 // The months of a year.
@@ -100,8 +100,8 @@ pub fn sheet(system: u32, year: u32) -> Sheet
     names::of_year(asked.c, asked.n)
 }
 
-// The requests below, the first three of which a citation asks, call once for each system, so that the compiler knows the
-// constants and need not divide by variables.
+// What a citation asks, days, a month and a date, and the pentad in force call once for each system, so that the
+// compiler knows the constants and need not divide by variables.
 
 // The days of a year.
 pub fn days(system: u32, year: u32) -> Days
@@ -172,7 +172,8 @@ pub fn date(system: u32, day: RegisterDay) -> Date
     dates::of_day(jiyuan(), day)
 }
 
-// The pentad in force at the end of a register day; refused DAY outside years 1 to 3000, counted from solstice to solstice.
+// The pentad in force at the end of a register day; refused DAY outside years 1 to 3000, counted from solstice to
+// solstice.
 pub fn pentad_in_force(system: u32, day: RegisterDay) -> PentadInForce
     ensures { λ r. ⌜ r ≡ pentadInForce system (day .0) ⌝ }
 {

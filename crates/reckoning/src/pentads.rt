@@ -1,6 +1,6 @@
 // The pentad in force on a day.
 ghost use mathlib.Core.Path.{_≡_};
-ghost use Rattle.reckoning.specs.Requests.{noPentad, pentadIn};
+ghost use Rattle.reckoning.specs.Requests.{noneInForce, inForceIn};
 ghost use Rattle.reckoning.specs.WordBounds.{ConstantsFit};
 use crate::closed_forms::common_year;
 use crate::closed_forms::last_step;
@@ -10,7 +10,7 @@ use calendar::data::Constants;
 use calendar::data::RegisterDay;
 
 pub(crate) fn none(refusal: u8) -> PentadInForce
-    ensures { λ r. ⌜ r ≡ noPentad refusal ⌝ }
+    ensures { λ r. ⌜ r ≡ noneInForce refusal ⌝ }
 {
     PentadInForce {
         refusal: refusal,
@@ -19,11 +19,11 @@ pub(crate) fn none(refusal: u8) -> PentadInForce
     }
 }
 
-// The pentad in force at the end of a register day: the last on a day before the next. Its year tells whether the day is in
-// scope.
+// The pentad in force at the end of a register day: the last on a day before the day after it. Its year tells whether
+// the day is in scope.
 pub(crate) fn of_day(c: Constants, day: RegisterDay) -> PentadInForce
     requires { ⌜ ConstantsFit c ⌝ }
-    ensures { λ r. ⌜ r ≡ pentadIn c (day .0) ⌝ }
+    ensures { λ r. ⌜ r ≡ inForceIn c (day .0) ⌝ }
 {
     let d = day.0 as u64 + c.anchor;
     let last = last_step(c, 72, d + 1);

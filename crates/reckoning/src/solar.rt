@@ -1,8 +1,7 @@
 // The solstice of one year, and its equal steps.
 ghost use mathlib.Core.Path.{_≡_};
 ghost use Prim.Native.Nat.{_%_, _^_, _<_};
-ghost use Rattle.calendar.specs.Steps.{moment};
-ghost use Rattle.reckoning.specs.Requests.{solsticeIn, momentIn, stepAnswer};
+ghost use Rattle.reckoning.specs.Requests.{solsticeIn, noMoment, stepIn, answerTo};
 ghost use Rattle.reckoning.specs.WordBounds.{StepFits, YearInRegister};
 use crate::asked::Asked;
 use crate::closed_forms::register_day;
@@ -35,7 +34,7 @@ pub(crate) fn solstice(c: Constants, n: u64) -> Solstice
 // Step i of year n, of `steps` equal ones, in units of which a part has `units`, so that nothing is rounded.
 fn step(c: Constants, steps: u64, units: u64, n: u64, i: u64) -> Moment
     requires { ⌜ StepFits c steps units n i ⌝ }
-    ensures { λ r. ⌜ r ≡ momentIn c units (moment c steps units n i) ⌝ }
+    ensures { λ r. ⌜ r ≡ stepIn steps units i c n ⌝ }
 {
     let moment = n * c.year * units + i * (c.year * units / steps);
     let parts = moment / units;
@@ -50,7 +49,7 @@ fn step(c: Constants, steps: u64, units: u64, n: u64, i: u64) -> Moment
 // The answer to a request for one of a year's steps.
 pub(crate) fn answer(asked: Asked, steps: u64, units: u64, i: u32) -> Moment
     requires { ⌜ (asked .refusal ≡ 0 → StepFits (asked .c) steps units (asked .n) i) ⌝ }
-    ensures { λ r. ⌜ r ≡ stepAnswer asked steps units i ⌝ }
+    ensures { λ r. ⌜ r ≡ answerTo asked (stepIn steps units i) noMoment ⌝ }
 {
     if asked.refusal != 0 {
         return Moment {

@@ -1,4 +1,4 @@
-use Rattle.reckoning.specs.Requests.{noPentad, pentadIn, pentadInForce}
+use Rattle.reckoning.specs.Requests.{noneInForce, inForceIn, pentadInForce}
 use Rattle.reckoning.proofs.ScopeInRegister.{guantian-fits, jiyuan-fits}
 use Rattle.reckoning.proofs.AnswerUnless.{no-such-system, by-guantian, by-jiyuan}
 use borrow.Author.Needs.{needs}
@@ -16,7 +16,7 @@ unfolding pentadInForce
 returns c =
     let tested = c .before .before in
     let args = tested .before .args in
-    no-such-system (λ k. pentadIn k (args .day .0)) noPentad (args .system) (tested .outside .ensures) (c .before .if1 .taken) (c .none .ensures)
+    no-such-system (λ k. inForceIn k (args .day .0)) noneInForce (args .system) (tested .outside .ensures) (c .before .if1 .taken) (c .none .ensures)
 
 guantian-requires : tie.Need-guantian-requires
 guantian-requires c κs = search needs
@@ -31,7 +31,7 @@ returns-2 c =
     let inside = picked .before .before in
     let tested = inside .before in
     let args = tested .before .args in
-    by-guantian (λ k. pentadIn k (args .day .0)) noPentad (args .system) (tested .outside .ensures) (inside .if1 .left)
+    by-guantian (λ k. inForceIn k (args .day .0)) noneInForce (args .system) (tested .outside .ensures) (inside .if1 .left)
     (c .of-day .ensures)
     (picked .before .if2 .taken)
     (picked .guantian .ensures)
@@ -49,7 +49,7 @@ returns-3 c =
     let inside = picked .before .before in
     let tested = inside .before in
     let args = tested .before .args in
-    by-jiyuan (λ k. pentadIn k (args .day .0)) noPentad (args .system) (tested .outside .ensures) (inside .if1 .left)
+    by-jiyuan (λ k. inForceIn k (args .day .0)) noneInForce (args .system) (tested .outside .ensures) (inside .if1 .left)
     (c .of-day2 .ensures)
     (picked .before .if2 .left)
     (picked .jiyuan .ensures)

@@ -1,10 +1,10 @@
-use Rattle.reckoning.proofs.StepLaws.{steps-fit, end-fits, end-some}
+use Rattle.reckoning.proofs.StepLaws.{divisor-fits, end-fits, end-some}
 use borrow.Author.Needs.{needs}
 use Rattle.reckoning.proofs.closed_forms.last_step.Statement.{statement}
 use Rattle.reckoning.proofs.closed_forms.last_step.Tie as tie
 
 mul-end : tie.Need-mul-end
-mul-end c = search steps-fit
+mul-end c = search divisor-fits
 
 mul-end-2 : tie.Need-mul-end-2
 mul-end-2 c = search end-fits
