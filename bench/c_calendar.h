@@ -18,12 +18,12 @@ enum {
 };
 
 struct calendar {
-    uint64_t day;       /* parts in a day */
-    uint64_t year;      /* parts in a year */
-    uint64_t month;     /* parts in a mean month */
-    uint64_t denominator; /* of a pentad's fraction of a part */
-    uint64_t elapsed;   /* years elapsed at common year 0 */
-    uint64_t anchor;    /* count day less register day */
+    uint64_t day;           /* parts in a day */
+    uint64_t year;          /* parts in a year */
+    uint64_t month;         /* parts in a mean month */
+    uint64_t denominator;   /* of a pentad's fraction of a part */
+    uint64_t elapsed;       /* years elapsed at common year 0 */
+    uint64_t anchor;        /* count day less register day */
 };
 
 static const struct calendar guantian = {

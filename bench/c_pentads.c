@@ -84,7 +84,7 @@ INLINE void write_pentads(const struct calendar *c, char letter, uint32_t year)
     }
 }
 
-/* The pentad in force at the end of a day: the last before the next. */
+/* The pentad in force at the end of a day: the last before the next day. */
 INLINE void write_in_force(const struct calendar *c, char letter, uint32_t day)
 {
     uint64_t next = day + c->anchor + 1;

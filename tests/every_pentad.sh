@@ -310,7 +310,7 @@ for system in 1 2; do
     long_years "$system"
     endless_ranges "$system"
 done
-# As days, these are all refused or none; some pass a size of machine word.
+# As days, each of these ranges is refused throughout or empty; some pass a size of machine word.
 for system in 1 2 3; do
     odd_ranges "$system"
 done

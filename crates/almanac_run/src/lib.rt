@@ -98,13 +98,14 @@ fn help() -> u32
         late in the common year before it.\n\
         pentads prints the 72 pentads of YEAR, or of each year from YEAR to LAST: the\n\
         steps of some five days that divide the year from its winter solstice on.\n\
-        pentad prints the pentad in force at the end of the register day DAY, or of each\n\
-        day from DAY to LAST, with its year, which runs from solstice to solstice.\n\
+        pentad prints the pentad in force at the end of the register day DAY, a Julian\n\
+        Day Number, or of each day from DAY to LAST, with its year, which runs from\n\
+        solstice to solstice.\n\
         compare prints where the months of YEAR, or of each year from YEAR to LAST,\n\
         differ between the calendars with the numbers FIRST and SECOND.\n\
-        In place of a page stands `refused 4` if there is no such calendar, `refused 5`\n\
-        if the year is outside 1 to 3000, and `refused 7` if the day is outside these\n\
-        years as counted from solstice to solstice.\n\
+        In place of a page or line stands `refused 4` if there is no such calendar,\n\
+        `refused 5` if the year is outside 1 to 3000, and `refused 7` if the day is\n\
+        outside these years as counted from solstice to solstice, 1721414 to 2817144.\n\
         The manual page almanac(1) tells the lines and the exit status.\n";
     exit::reply(text, b"almanac: standard output")
 }

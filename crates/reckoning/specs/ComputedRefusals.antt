@@ -8,6 +8,7 @@ use Rattle.calendar.specs.declared.data.Constants.{Constants}
 use Rattle.calendar.specs.Systems.{yearsElapsed}
 use Rattle.calendar.specs.Steps.{solsticeDay}
 use Rattle.calendar.specs.ClosedForms.{headOfYear, leapFollows}
+use Rattle.reckoning.specs.Divisions.{qis, pentads}
 use Rattle.reckoning.specs.RefusalNumbers.{SYSTEM, YEAR, STEP}
 
 infixl 20 _if_
@@ -44,11 +45,11 @@ stepRefusal most system year i = first (wrongSystem system ∷ wrongYear year �
 
 -- a qi,
 abbrev pub qiRefusal : ℕ → ℕ → ℕ → ℕ
-qiRefusal system year i = stepRefusal 23 system year i
+qiRefusal system year i = stepRefusal (qis .last) system year i
 
 -- or a pentad.
 abbrev pub pentadRefusal : ℕ → ℕ → ℕ → ℕ
-pentadRefusal system year p = stepRefusal 71 system year p
+pentadRefusal system year p = stepRefusal (pentads .last) system year p
 
 -- Refusal MONTH: a number or a mark that no month has.
 abbrev pub monthWrong : ℕ → ℕ → Bool

@@ -6,10 +6,10 @@ pub mod Scope
 pub mod RefusalNumbers
 -- Tables of refusals in words: the first row that applies.
 pub mod WordedRefusals
--- Refusals as they are computed: the first rule that applies.
-pub mod ComputedRefusals
 -- The divisions of a year that can be asked for: qi and pentads.
 pub mod Divisions
+-- Refusals as they are computed: the first rule that applies.
+pub mod ComputedRefusals
 -- What a request by system and year stands on.
 pub mod Asked
 -- Common years told from years elapsed.

@@ -30,12 +30,6 @@ NoSuchMonth number leap = (Inside 1 12 number → ⊥) ⊎ (Inside 0 1 leap → 
 abbrev pub NotLeap : Constants → ℕ → ℕ → ℕ → Type 0
 NotLeap c n number leap = (leap ≡ 1) × (HasLeap c n number → ⊥)
 
--- The register days of years 1 to 3000 counted from solstice to solstice, by the solstice days of years 1 and 3001; a
--- request for the pentad in force is refused DAY for any other.
-pub record SolarDayInScope (system r : ℕ) : Type 0 where
-  pub from : solsticeDay (constantsOf system) (yearsElapsed (constantsOf system) 1) ≤ r + constantsOf system .anchor
-  pub before : r + constantsOf system .anchor < solsticeDay (constantsOf system) (yearsElapsed (constantsOf system) 3001)
-
 -- The register days of years 1 to 3000, by the heads of years 1 and 3001; a citation by register day and a request for
 -- a date are refused DAY for any other.
 pub record DayInScope (system r : ℕ) : Type 0 where
@@ -43,3 +37,9 @@ pub record DayInScope (system r : ℕ) : Type 0 where
   pub past : Span (constantsOf system) (yearsElapsed (constantsOf system) 3001)
   pub from : yearHead first ≤ r + constantsOf system .anchor
   pub before : r + constantsOf system .anchor < yearHead past
+
+-- The register days of years 1 to 3000 counted from solstice to solstice, by the solstice days of years 1 and 3001; a
+-- request for the pentad in force is refused DAY for any other.
+pub record SolarDayInScope (system r : ℕ) : Type 0 where
+  pub from : solsticeDay (constantsOf system) (yearsElapsed (constantsOf system) 1) ≤ r + constantsOf system .anchor
+  pub before : r + constantsOf system .anchor < solsticeDay (constantsOf system) (yearsElapsed (constantsOf system) 3001)

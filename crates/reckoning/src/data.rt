@@ -17,8 +17,7 @@ pub struct Moment {
     pub units: u32,
 }
 
-// The pentad in force at the end of a day, and its year, counted from solstice to solstice. The number has 32 bits for
-// the reason that a date's year has.
+// The pentad in force at the end of a day, by number, and its year, counted from solstice to solstice.
 pub struct PentadInForce {
     pub refusal: u8,
     pub year: u32,

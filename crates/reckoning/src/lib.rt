@@ -100,8 +100,8 @@ pub fn sheet(system: u32, year: u32) -> Sheet
     names::of_year(asked.c, asked.n)
 }
 
-// What a citation asks, days, a month and a date, and the pentad in force call once for each system, so that the
-// compiler knows the constants and need not divide by variables.
+// Below are what a citation asks (days, a month, a date) and the pentad in force. They call once for each system, so that
+// the compiler knows the constants and need not divide by variables.
 
 // The days of a year.
 pub fn days(system: u32, year: u32) -> Days
