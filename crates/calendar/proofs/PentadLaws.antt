@@ -25,10 +25,6 @@ pub jiyuan-pentad-step : step jiyuan 72 (jiyuan .denominator) ≡ (5 * 7290 + 53
 jiyuan-pentad-step = refl
 
 module _ (c : Constants) (ok : Consistent c) where
-  -- Pentad p falls p seventy-seconds of Y after the solstice: 72 times its moment is 72 n + p years.
-  pub pentad-exact : (n p : ℕ) → 72 * pentad c n p ≡ (72 * n + p) * (c .year * c .denominator)
-  pentad-exact = exact c 72 (c .denominator) (ok .pentads-exact)
-
   -- Every third pentad is a qi, to the last unit.
   pub every-third-is-a-qi : (n i : ℕ) → c .units * pentad c n (3 * i) ≡ c .denominator * qi c n i
   every-third-is-a-qi n i =
@@ -37,6 +33,10 @@ module _ (c : Constants) (ok : Consistent c) where
   pub every-third-told-alike : (n i : ℕ) → ToldAlike c (c .units) (c .denominator) (pentad c n (3 * i)) (qi c n i)
   every-third-told-alike n i =
       told-alike c (c .units) (c .denominator) (pentad c n (3 * i)) (qi c n i) (ok .units-some) (ok .denominator-some) (every-third-is-a-qi n i)
+
+  -- Pentad p falls p seventy-seconds of Y after the solstice: 72 times its moment is 72 n + p years.
+  pub pentad-exact : (n p : ℕ) → 72 * pentad c n p ≡ (72 * n + p) * (c .year * c .denominator)
+  pentad-exact = exact c 72 (c .denominator) (ok .pentads-exact)
 
   -- Pentad 72 of a year is pentad 0 of the next,
   pub pentads-close : (n : ℕ) → pentad c n 72 ≡ pentad c (n + 1) 0

@@ -11,7 +11,8 @@ pentad c n p = moment c 72 (c .denominator) n p
 abbrev pub pentadDay : Constants → ℕ → ℕ → ℕ
 pentadDay c n p = dayOf c (c .denominator) (pentad c n p)
 
--- Pentad p of year n is in force at the end of day d: it is the last whose moment falls on that day or earlier.
+-- Pentad p of year n is in force, the customer's own term, at the end of day d: it is the last whose moment falls on that
+-- day or earlier.
 pub record InForce (c : Constants) (d n p : ℕ) : Type 0 where
   pub is-pentad : p < 72
   pub has-come : pentadDay c n p ≤ d

@@ -49,8 +49,8 @@ pub(crate) fn day_of_qi(c: Constants, g: u64) -> u64
     g * c.year / (12 * c.solar)
 }
 
-// The last of `steps` equal steps a year on a day before d. With a part cut into as many, a step has Y of the pieces and
-// a day D times as many as a part, so that all is whole.
+// The last of `steps` equal steps a year on a day before d. Parts are cut into `steps` pieces each: a step has Y of them
+// then, and a day D times `steps`, so that all is whole.
 pub(crate) fn last_step(c: Constants, steps: u64, d: u64) -> LastStep
     requires { ⌜ LastStepFits c steps d ⌝ }
     ensures { λ r. ⌜ r ≡ lastStep c steps d ⌝ }
