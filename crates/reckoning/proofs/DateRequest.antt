@@ -1,6 +1,7 @@
 -- The date of a register day: its numbers fit, and its year tells whether it is in scope.
 use Prim.Native.Nat.{ℕ, _+_, _-_, _/_, _%_, _≤_}
 use mathlib.Core.Path.{_≡_, sym, ap, _∙_}
+use mathlib.Core.Bool.{Bool, true, false}
 use native.Mathlib.Omega.{arith}
 use mir.Syntax.{w8}
 use mir.Val.{Fits}
@@ -15,10 +16,10 @@ use Rattle.reckoning.specs.declared.month_spans.MonthSpan.{MonthSpan}
 use Rattle.reckoning.specs.declared.month_spans.LastQi.{LastQi}
 use Rattle.reckoning.specs.MonthSpans.{monthSpan, lastQi}
 use Rattle.reckoning.specs.WordBounds.{ConstantsFit}
-use Rattle.reckoning.specs.CommonYears.{commonYear}
+use Rattle.reckoning.specs.CommonYears.{commonYear, outOfScope}
 use Rattle.reckoning.specs.Requests.{noDate, dateIn}
 use Rattle.reckoning.specs.RefusalNumbers.{DAY}
-use Rattle.reckoning.proofs.YearOfDay.{in-time, day-outside, day-inside}
+use Rattle.reckoning.proofs.YearOfDay.{day-outside, day-inside}
 
 -- The request, by the day's month and its last middle qi.
 module _ {c : Constants} (fit : ConstantsFit c) (r : ℕ) {m : MonthSpan} {last : LastQi}
@@ -48,27 +49,26 @@ module _ {c : Constants} (fit : ConstantsFit c) (r : ℕ) {m : MonthSpan} {last 
     year-is : last .qi / 12 ≡ yearOfMonth c k
     year-is = ap (λ x. x .qi / 12) last-is
 
-    -- its two cases, by the common year
-    module _ {year : ℕ} (is : year ≡ commonYear c (last .qi / 12)) where
-      common-is : year ≡ commonYear c (yearOfMonth c k)
-      common-is = is ∙ ap (commonYear c) year-is
+    -- its two cases, by its year
+    module _ {b : Bool} (test : b ≡ outOfScope c (last .qi / 12)) where
+      scope-is : b ≡ outOfScope c (yearOfMonth c k)
+      scope-is = test ∙ ap (outOfScope c) year-is
 
-      pub date-outside : {v : Date} → v ≡ noDate DAY → year ≡ 0 → v ≡ dateIn c r
+      pub date-outside : {v : Date} → v ≡ noDate DAY → b ≡ true → v ≡ dateIn c r
       unfolding dateIn
-      date-outside e none =
+      date-outside e out =
           e
           ∙ simp (day-outside c (fit .consistent .epoch-before) (headOfYear c) r (yearOfMonth c k)
           (λ m. year-from K m (r + c .anchor))
           (λ m. year-before K m (r + c .anchor))
-          (sym common-is ∙ none))
+          (sym scope-is ∙ out))
 
-      pub date-inside : {number : ℕ} → number ≡ numberOf (last .qi % 12) → (year ≡ 0 → ⊥)
+      pub date-inside : {number year : ℕ} → number ≡ numberOf (last .qi % 12) → year ≡ commonYear c (last .qi / 12) → b ≡ false
           → record { refusal = 0; year = year; month = number; leap = last .leap; day = r + c .anchor - m .head + 1 }
           ≡ dateIn c r
       unfolding dateIn
-      date-inside number-is some =
-          let some-year : commonYear c (yearOfMonth c k) ≡ 0 → ⊥ = λ z. some (common-is ∙ z) in
-          let year-here = common-is ∙ in-time c (yearOfMonth c k) some-year .is in
+      date-inside number-is year-here-is inside =
+          let year-here = year-here-is ∙ ap (commonYear c) year-is in
           let number-here = number-is ∙ ap (λ x. numberOf (x .qi % 12)) last-is in
           (λ j.
           record {
@@ -81,4 +81,4 @@ module _ {c : Constants} (fit : ConstantsFit c) (r : ℕ) {m : MonthSpan} {last 
           ∙ simp (day-inside c (fit .consistent .epoch-before) (headOfYear c) r (yearOfMonth c k)
           (λ m. year-from K m (r + c .anchor))
           (λ m. year-before K m (r + c .anchor))
-          some-year)
+          (sym scope-is ∙ inside))

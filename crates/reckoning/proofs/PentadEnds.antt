@@ -10,7 +10,7 @@ use Rattle.calendar.proofs.EachSystem.{consistent}
 use Rattle.calendar.proofs.PentadLaws.{in-force, only-in-force, year-from, year-before, solar-year}
 use Rattle.reckoning.specs.declared.data.PentadInForce.{PentadInForce}
 use Rattle.reckoning.specs.Scope.{SystemInScope, SolarDayInScope}
-use Rattle.reckoning.specs.CommonYears.{commonYearAt}
+use Rattle.reckoning.specs.CommonYears.{commonYear}
 use Rattle.reckoning.specs.Requests.{inForceAt, inForceIn, pentadInForce}
 use Rattle.reckoning.specs.Outcomes as O
 use Rattle.reckoning.proofs.RefusalCases.{by-inside}
@@ -27,7 +27,7 @@ found-pentad system r system-inside p =
     let early = year-from c ok d (yearsElapsed c 1) (p .from) in
     let late = year-before c ok d (yearsElapsed c 3001) (p .before) in
     let epoch = ok .epoch-before in
-    let same : n ≡ yearsElapsed c (commonYearAt c n) = omega arith in
+    let same : n ≡ yearsElapsed c (commonYear c n) = omega arith in
     O.PentadOutcome.found
     (record {
       in-scope = record { system-inside = system-inside; year-inside = record { at-least = omega arith; at-most = omega arith } };

@@ -1,21 +1,22 @@
 -- The pentad in force on a register day: its year tells whether the day is in scope.
 use Prim.Native.Nat.{ℕ, _+_, _/_, _%_}
 use mathlib.Core.Path.{_≡_, sym, ap, _∙_}
+use mathlib.Core.Bool.{Bool, true, false}
 use Rattle.calendar.specs.declared.data.Constants.{Constants}
 use Rattle.calendar.specs.Steps.{solsticeDay}
 use Rattle.calendar.specs.ClosedForms.{pentadOn}
 use Rattle.calendar.proofs.PentadLaws.{year-from, year-before}
 use Rattle.reckoning.specs.declared.closed_forms.LastStep.{LastStep}
 use Rattle.reckoning.specs.declared.data.PentadInForce.{PentadInForce}
-use Rattle.reckoning.specs.CommonYears.{commonYear}
+use Rattle.reckoning.specs.CommonYears.{commonYear, outOfScope}
 use Rattle.reckoning.specs.LastSteps.{lastStep}
 use Rattle.reckoning.specs.RefusalNumbers.{DAY}
 use Rattle.reckoning.specs.Requests.{noneInForce, inForceIn}
 use Rattle.reckoning.specs.WordBounds.{ConstantsFit}
-use Rattle.reckoning.proofs.YearOfDay.{in-time, day-outside, day-inside}
+use Rattle.reckoning.proofs.YearOfDay.{day-outside, day-inside}
 
 module _ {c : Constants} (fit : ConstantsFit c) (r : ℕ) {last : LastStep} (found : last ≡ lastStep c 72 (r + c .anchor + 1))
-    {year : ℕ} (is : year ≡ commonYear c (last .step / 72))
+    {b : Bool} (test : b ≡ outOfScope c (last .step / 72))
   where
     abbrev d : ℕ
     d = r + c .anchor
@@ -23,25 +24,25 @@ module _ {c : Constants} (fit : ConstantsFit c) (r : ℕ) {last : LastStep} (fou
     step-is : last .step ≡ pentadOn c d
     step-is = ap (λ x. x .step) found
 
-    common-is : year ≡ commonYear c (pentadOn c d / 72)
-    common-is = is ∙ ap (λ h. commonYear c (h / 72)) step-is
+    scope-is : b ≡ outOfScope c (pentadOn c d / 72)
+    scope-is = test ∙ ap (λ h. outOfScope c (h / 72)) step-is
 
-    pub pentad-outside : {v : PentadInForce} → v ≡ noneInForce DAY → year ≡ 0 → v ≡ inForceIn c r
+    pub pentad-outside : {v : PentadInForce} → v ≡ noneInForce DAY → b ≡ true → v ≡ inForceIn c r
     unfolding inForceIn
-    pentad-outside e none =
+    pentad-outside e out =
         e
         ∙ simp (day-outside c (fit .consistent .epoch-before) (solsticeDay c) r (pentadOn c d / 72)
         (year-from c (fit .consistent) d)
         (year-before c (fit .consistent) d)
-        (sym common-is ∙ none))
+        (sym scope-is ∙ out))
 
-    pub pentad-inside : (year ≡ 0 → ⊥) → record { refusal = 0; year = year; pentad = last .step % 72 } ≡ inForceIn c r
+    pub pentad-inside : {year : ℕ} → year ≡ commonYear c (last .step / 72) → b ≡ false
+        → record { refusal = 0; year = year; pentad = last .step % 72 } ≡ inForceIn c r
     unfolding inForceIn
-    pentad-inside some =
-        let some-year : commonYear c (pentadOn c d / 72) ≡ 0 → ⊥ = λ z. some (common-is ∙ z) in
-        let year-here = common-is ∙ in-time c (pentadOn c d / 72) some-year .is in
+    pentad-inside is inside =
+        let year-here = is ∙ ap (λ h. commonYear c (h / 72)) step-is in
         (λ j. record { refusal = 0; year = year-here j; pentad = step-is j % 72 })
         ∙ simp (day-inside c (fit .consistent .epoch-before) (solsticeDay c) r (pentadOn c d / 72)
         (year-from c (fit .consistent) d)
         (year-before c (fit .consistent) d)
-        some-year)
+        (sym scope-is ∙ inside))

@@ -19,7 +19,7 @@ use Rattle.calendar.proofs.EveryCalendar.{in-its-year, years-rise, year-from, y
 use Rattle.calendar.proofs.LeapMonths.{leap-number}
 use Rattle.calendar.proofs.Laws.{numbered, leap-follows, ordinary-cited, leap-cited}
 use Rattle.reckoning.specs.Scope.{SystemInScope, InScope, DayInScope}
-use Rattle.reckoning.specs.CommonYears.{commonYearAt}
+use Rattle.reckoning.specs.CommonYears.{commonYear}
 use Rattle.reckoning.specs.ComputedRefusals.{yearRefusal, dayWrong}
 use Rattle.reckoning.specs.Requests.{daysIn, noDays, daysOf, monthAt, noMonth, monthTelling, monthOf, dateAt, dateIn, dateOf}
 use Rattle.reckoning.specs.Outcomes as O
@@ -154,7 +154,7 @@ found-date system r system-inside p =
     let early = year-from K (yearsElapsed c 1) d (omega (arith, p .from, ap (monthHead c) (span-first c ok (p .first)))) in
     let late = year-before K (yearsElapsed c 3001) d (omega (arith, p .before, ap (monthHead c) (span-first c ok (p .past)))) in
     let epoch = ok .epoch-before in
-    let year = commonYearAt c n in
+    let year = commonYear c n in
     let same : n ≡ yearsElapsed c year = omega arith in
     O.DateOutcome.found
     (record {

@@ -26,7 +26,7 @@ use Rattle.reckoning.specs.ComputedRefusals.{monthWrong, leapWrong, dayW
 use Rattle.reckoning.specs.RefusalNumbers.{SYSTEM, MONTH, DAY, LEAP}
 use Rattle.reckoning.specs.Asked.{askedOf}
 use Rattle.reckoning.specs.Divisions.{Division, qis, pentads}
-use Rattle.reckoning.specs.CommonYears.{commonYearAt}
+use Rattle.reckoning.specs.CommonYears.{commonYear}
 use Rattle.reckoning.specs.Filled.{filled}
 
 abbrev pub asRegisterDay : ℕ → RegisterDay
@@ -187,7 +187,7 @@ dateAt c d =
     let k = monthOfDay c d in
     record {
       refusal = 0;
-      year = commonYearAt c (yearOfMonth c k);
+      year = commonYear c (yearOfMonth c k);
       month = monthNumber c k;
       leap = leapMark c k;
       day = d - monthHead c k + 1;
@@ -205,7 +205,7 @@ dateOf system r = answerOfSystem system (λ c. dateIn c r) noDate
 -- The pentad in force at the end of a register day, and its year, counted from solstice to solstice; DAY outside years
 -- 1 to 3000 so counted. Refused: zeros.
 abbrev pub inForceAt : Constants → ℕ → PentadInForce
-inForceAt c d = record { refusal = 0; year = commonYearAt c (pentadOn c d / 72); pentad = pentadOn c d % 72 }
+inForceAt c d = record { refusal = 0; year = commonYear c (pentadOn c d / 72); pentad = pentadOn c d % 72 }
 
 abbrev pub noneInForce : ℕ → PentadInForce
 noneInForce refusal = record { refusal = refusal; year = 0; pentad = 0 }

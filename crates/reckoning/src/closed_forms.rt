@@ -1,11 +1,12 @@
 // Years, days, steps and numbers, over the constants of one system. The bounds that each function asks for keep its
 // numbers within 64 bits; every year in scope and every register day meets them.
 ghost use mathlib.Core.Path.{_≡_};
+ghost use mathlib.Core.Bool.{false};
 ghost use Prim.Native.Nat.{_%_, _<_, _^_};
 ghost use Rattle.calendar.specs.Systems.{yearsElapsed, registerDay};
 ghost use Rattle.calendar.specs.Month.{monthHead, numberOf};
 ghost use Rattle.calendar.specs.ClosedForms.{dayOfQi};
-ghost use Rattle.reckoning.specs.CommonYears.{commonYear};
+ghost use Rattle.reckoning.specs.CommonYears.{commonYear, outOfScope};
 ghost use Rattle.reckoning.specs.LastSteps.{lastStep};
 ghost use Rattle.reckoning.specs.WordBounds.{ConstantsFit, LastStepFits, InRegister};
 use calendar::data::Constants;
@@ -62,19 +63,21 @@ pub(crate) fn last_step(c: Constants, steps: u64, d: u64) -> LastStep
     }
 }
 
-// The common year at n years elapsed, where it is one of years 1 to 3000; otherwise 0.
-pub(crate) fn common_year(c: Constants, n: u64) -> u32
+// Whether the common year at n years elapsed is not one of years 1 to 3000.
+pub(crate) fn out_of_scope(c: Constants, n: u64) -> bool
     requires { ⌜ ConstantsFit c × (n < 2 ^ 62) ⌝ }
-    ensures { λ r. ⌜ r ≡ commonYear c n ⌝ }
+    ensures { λ r. ⌜ r ≡ outOfScope c n ⌝ }
 {
     let year = n + c.common;
-    if year <= c.elapsed {
-        return 0;
-    }
-    if c.elapsed + 3000 < year {
-        return 0;
-    }
-    (year - c.elapsed) as u32
+    year <= c.elapsed || c.elapsed + 3000 < year
+}
+
+// The common year at n years elapsed.
+pub(crate) fn common_year(c: Constants, n: u64) -> u32
+    requires { ⌜ ConstantsFit c × (outOfScope c n ≡ false) ⌝ }
+    ensures { λ r. ⌜ r ≡ commonYear c n ⌝ }
+{
+    (n + c.common - c.elapsed) as u32
 }
 
 // The number that middle qi g gives its month.

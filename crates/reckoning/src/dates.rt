@@ -4,6 +4,7 @@ ghost use Rattle.reckoning.specs.Requests.{noDate, dateIn};
 ghost use Rattle.reckoning.specs.WordBounds.{ConstantsFit};
 use crate::closed_forms::common_year;
 use crate::closed_forms::number_of_qi;
+use crate::closed_forms::out_of_scope;
 use crate::data::Date;
 use crate::month_spans;
 use crate::refusal_numbers::DAY;
@@ -30,14 +31,14 @@ pub(crate) fn of_day(c: Constants, day: RegisterDay) -> Date
     let d = day.0 as u64 + c.anchor;
     let m = month_spans::of_day(c, d);
     let last = month_spans::last_qi(c, m);
-    let year = common_year(c, last.qi / 12);
-    if year == 0 {
+    let n = last.qi / 12;
+    if out_of_scope(c, n) {
         return none(DAY);
     }
     let place = (d - m.head + 1) as u8;
     Date {
         refusal: 0,
-        year: year,
+        year: common_year(c, n),
         month: number_of_qi(last.qi),
         leap: last.leap,
         day: place,

@@ -75,8 +75,8 @@ pub(crate) fn last_qi(c: Constants, m: MonthSpan) -> LastQi
     requires { ⌜ SpanFits c m ⌝ }
     ensures { λ r. ⌜ r ≡ lastQi c (m .month) ⌝ }
 {
-    let last = last_step(c, 12, m.next);
     let length = (m.next - m.head) * (12 * c.solar);
+    let last = last_step(c, 12, m.next);
     if last.left < length {
         return LastQi {
             qi: last.step,

@@ -4,6 +4,7 @@ ghost use Rattle.reckoning.specs.Requests.{noneInForce, inForceIn};
 ghost use Rattle.reckoning.specs.WordBounds.{ConstantsFit};
 use crate::closed_forms::common_year;
 use crate::closed_forms::last_step;
+use crate::closed_forms::out_of_scope;
 use crate::data::PentadInForce;
 use crate::refusal_numbers::DAY;
 use calendar::data::Constants;
@@ -27,13 +28,13 @@ pub(crate) fn of_day(c: Constants, day: RegisterDay) -> PentadInForce
 {
     let d = day.0 as u64 + c.anchor;
     let last = last_step(c, 72, d + 1);
-    let year = common_year(c, last.step / 72);
-    if year == 0 {
+    let n = last.step / 72;
+    if out_of_scope(c, n) {
         return none(DAY);
     }
     PentadInForce {
         refusal: 0,
-        year: year,
+        year: common_year(c, n),
         pentad: (last.step % 72) as u32,
     }
 }

@@ -1,5 +1,6 @@
 use native.Mathlib.Omega.{arith}
 use Rattle.reckoning.proofs.MonthSpanLaws.{day-span-fits}
+use Rattle.reckoning.proofs.YearOfDay.{tested-in-scope}
 use Rattle.reckoning.proofs.DateRequest.{place-from, place-fits, date-outside, date-inside}
 use borrow.Author.Needs.{needs}
 use Rattle.reckoning.proofs.dates.of_day.Statement.{statement}
@@ -17,8 +18,8 @@ of-day-requires c κs = search needs
 last-qi-requires : tie.Need-last-qi-requires
 last-qi-requires c κs = day-span-fits (c .before .before .before .pre) _ (omega arith) (c .of-day .ensures)
 
-common-year-requires : tie.Need-common-year-requires
-common-year-requires c κs = search needs
+out-of-scope-requires : tie.Need-out-of-scope-requires
+out-of-scope-requires c κs = search needs
 
 none-requires : tie.Need-none-requires
 none-requires c κs = search needs
@@ -35,6 +36,9 @@ add-place c = search needs
 cast-place : tie.Need-cast-place
 cast-place c = search place-fits
 
+common-year-requires : tie.Need-common-year-requires
+common-year-requires c κs = search tested-in-scope
+
 number-of-qi-requires : tie.Need-number-of-qi-requires
 number-of-qi-requires c κs = search needs
 
@@ -49,11 +53,12 @@ of-day-spec =
     add-d
     of-day-requires
     last-qi-requires
-    common-year-requires
+    out-of-scope-requires
     none-requires
     returns
     sub-place
     add-place
     cast-place
+    common-year-requires
     number-of-qi-requires
     returns-2)

@@ -3,9 +3,6 @@ use borrow.Author.Needs.{needs}
 use Rattle.reckoning.proofs.month_spans.last_qi.Statement.{statement}
 use Rattle.reckoning.proofs.month_spans.last_qi.Tie as tie
 
-last-step-requires : tie.Need-last-step-requires
-last-step-requires c κs = search next-found
-
 sub-length : tie.Need-sub-length
 sub-length c = search head-before
 
@@ -15,6 +12,9 @@ mul-length c = search needs
 mul-length-2 : tie.Need-mul-length-2
 mul-length-2 c = search length-fits
 
+last-step-requires : tie.Need-last-step-requires
+last-step-requires c κs = search next-found
+
 returns : tie.Need-returns
 returns c = search last-ordinary
 
@@ -23,4 +23,4 @@ returns-2 c = search last-leap
 
 pub last-qi-spec : {M : Type 1} → statement M
 last-qi-spec =
-    tie.close (tie.spec last-step-requires sub-length mul-length mul-length-2 returns returns-2)
+    tie.close (tie.spec sub-length mul-length mul-length-2 last-step-requires returns returns-2)

@@ -1,3 +1,4 @@
+use Rattle.reckoning.proofs.YearOfDay.{tested-in-scope}
 use Rattle.reckoning.proofs.PentadRequest.{pentad-outside, pentad-inside}
 use borrow.Author.Needs.{needs}
 use Rattle.reckoning.proofs.pentads.of_day.Statement.{statement}
@@ -15,8 +16,8 @@ add-last-step c = search needs
 last-step-requires : tie.Need-last-step-requires
 last-step-requires c κs = search needs
 
-common-year-requires : tie.Need-common-year-requires
-common-year-requires c κs = search needs
+out-of-scope-requires : tie.Need-out-of-scope-requires
+out-of-scope-requires c κs = search needs
 
 none-requires : tie.Need-none-requires
 none-requires c κs = search needs
@@ -24,8 +25,11 @@ none-requires c κs = search needs
 returns : tie.Need-returns
 returns c = search pentad-outside
 
-cast-t8 : tie.Need-cast-t8
-cast-t8 c = search needs
+common-year-requires : tie.Need-common-year-requires
+common-year-requires c κs = search tested-in-scope
+
+cast-t9 : tie.Need-cast-t9
+cast-t9 c = search needs
 
 returns-2 : tie.Need-returns-2
 returns-2 c = search pentad-inside
@@ -38,8 +42,9 @@ of-day-spec =
     add-d
     add-last-step
     last-step-requires
-    common-year-requires
+    out-of-scope-requires
     none-requires
     returns
-    cast-t8
+    common-year-requires
+    cast-t9
     returns-2)
