@@ -181,14 +181,7 @@ for system in "${wrong_systems[@]}"; do
 done
 leading_noughts 01
 leading_noughts 2
-for system in 1 2; do
-    years_outside "$system"
-    long_years "$system"
-    endless_ranges "$system"
-done
-for system in 1 2 3; do
-    odd_ranges "$system"
-done
+years_of_all_sorts
 
 # From here on days, of which the first is the solstice day of year 1 and the last the day before that of year 3001: in
 # both systems 1721414 and 2817144.

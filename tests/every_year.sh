@@ -17,13 +17,6 @@ for system in "${wrong_systems[@]}"; do
 done
 leading_noughts 1
 leading_noughts 002
-for system in 1 2; do
-    years_outside "$system"
-    long_years "$system"
-    endless_ranges "$system"
-done
-for system in 1 2 3; do
-    odd_ranges "$system"
-done
+years_of_all_sorts
 
 echo "every_year: 6000 years are the same ($lines lines in system 2), and so is what is refused"

@@ -136,38 +136,39 @@ due_status=0 due_line=
 INTERRUPTS=1000 plain 2 1
 
 program=almanac input=/dev/null due_status=0 due_line=
-command=(build/almanac year 2 2999 3001)
-build/independent year "${command[@]:2}" > "$scratch/right"
-WRITE_MOST=1 INTERRUPTS=3 plain 0 1000
-export WRITE_MOST=300
-plain 0 12
-every_fault write "$ENOSPC"
-unset WRITE_MOST
 
-command=(build/almanac year 1 1 200)
-build/independent year "${command[@]:2}" > "$scratch/right"
-plain 0 2
-every_fault write "$ENOSPC"
+# A request of the almanac, and what is right of it.
+asked() {
+    command=(build/almanac "$@")
+    build/independent "$@" > "$scratch/right"
+}
+
+# Its writes, of which there are so many or more, fail one by one.
+every_write() {
+    plain 0 "$1"
+    every_fault write "$ENOSPC"
+}
+
+# The same of writes that take 300 bytes at most.
+in_pieces() {
+    local -x WRITE_MOST=300
+    every_write "$1"
+}
+
+asked year 2 2999 3001
+WRITE_MOST=1 INTERRUPTS=3 plain 0 1000
+in_pieces 12
+asked year 1 1 200
+every_write 2
 
 # Pentads of years and of days, with refusals on either side.
-command=(build/almanac pentads 2 2999 3001)
-build/independent pentads "${command[@]:2}" > "$scratch/right"
-export WRITE_MOST=300
-plain 0 12
-every_fault write "$ENOSPC"
-unset WRITE_MOST
-
-command=(build/almanac pentad 1 1720000 1735000)
-build/independent pentad "${command[@]:2}" > "$scratch/right"
-plain 0 2
-every_fault write "$ENOSPC"
+asked pentads 2 2999 3001
+in_pieces 12
+asked pentad 1 1720000 1735000
+every_write 2
 
 # Comparisons: 13 places, none, and a refusal.
-command=(build/almanac compare 1 2 2881 3001)
-build/independent compare "${command[@]:2}" > "$scratch/right"
-export WRITE_MOST=300
-plain 0 2
-every_fault write "$ENOSPC"
-unset WRITE_MOST
+asked compare 1 2 2881 3001
+in_pieces 2
 
 echo "faults: $runs runs go on or stop as they must"

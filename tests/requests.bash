@@ -84,3 +84,17 @@ endless_ranges() {
         [ "$came" = " 100000 refused $past_refusal" ] || fail "$request $* $past $last: $came"
     done
 }
+
+# Years and ranges of all these sorts, for a request by one system and year: of each system, and ranges of one that there
+# is not.
+years_of_all_sorts() {
+    local system
+    for system in 1 2; do
+        years_outside "$system"
+        long_years "$system"
+        endless_ranges "$system"
+    done
+    for system in 1 2 3; do
+        odd_ranges "$system"
+    done
+}

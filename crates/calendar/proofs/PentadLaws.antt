@@ -2,7 +2,6 @@
 use Prim.Native.Nat.{ℕ, _+_, _*_, _/_, _%_, _≤_, _<_}
 use mathlib.Core.Path.{_≡_, refl, ap, subst, sym}
 use mathlib.Core.Logic.{_↔_}
-use native.Mathlib.Nat.{le-div-iff-mul-le, mul-pos}
 use native.Mathlib.Omega.{arith}
 use Rattle.calendar.specs.declared.data.Constants.{Constants}
 use Rattle.calendar.specs.Systems.{guantian, jiyuan}
@@ -14,7 +13,7 @@ use Rattle.calendar.specs.ClosedForms.{dayOfStep, pentadOn}
 use Rattle.calendar.proofs.Rising.{by-order}
 use Rattle.calendar.proofs.Reckoned.{year-some}
 use Rattle.calendar.proofs.Steps.{exact, steps-close, step-day, step-zero, coarser-on-finer, ToldAlike, told-alike, moments-rise, counts-rise}
-use Rattle.calendar.proofs.Steps.{first-step-day, step-is-last, step-is-before, step-after-it}
+use Rattle.calendar.proofs.Steps.{first-step-day, step-in-parts, step-is-last, step-is-before, step-after-it}
 
 -- The step of 002: 5 days, 876 parts and 4 thirty-sixths.
 pub guantian-pentad-step : step guantian 72 (guantian .denominator) ≡ (5 * 12_030 + 876) * 36 + 4
@@ -61,11 +60,7 @@ module _ (c : Constants) (ok : Consistent c) where
   module _ (d : ℕ) where
     -- it is the last h with h Y < 72 D (d + 1)
     pub last-in-parts : (h : ℕ) → (h ≤ pentadOn c d) ↔ (h * c .year < 72 * c .solar * (d + 1))
-    last-in-parts h =
-        let some = mul-pos {m = 72 * c .solar} {n = d + 1} (omega (arith, ok .solar-some)) (omega arith) in (
-          λ l. omega (arith, le-div-iff-mul-le (year-some c ok) .0 l),
-          λ l. le-div-iff-mul-le (year-some c ok) .1 (omega arith),
-        )
+    last-in-parts = step-in-parts c 72 (omega arith) (ok .solar-some) (year-some c ok) (d + 1) (omega arith)
 
     comes-up-to-it : (h : ℕ) → h ≤ pentadOn c d → dayOfStep c 72 h < d + 1
     comes-up-to-it h = step-is-before c 72 (omega arith) (ok .solar-some) (year-some c ok) (d + 1) (omega arith) h

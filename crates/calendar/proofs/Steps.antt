@@ -1,7 +1,8 @@
 -- Equal steps of a year, over any number of them and any units of a part.
 use Prim.Native.Nat.{ℕ, _+_, _*_, _-_, _/_, _%_, _≤_, _<_}
 use mathlib.Core.Path.{_≡_, refl, ap, sym, _∙_}
-use native.Mathlib.Nat.{div-add-mod', mod-lt, mul-pos, mul-le-mul-left, mul-le-mul-right, le-of-mul-le-mul-left, le-of-mul-le-mul-right, mul-div-cancel, div-div-eq-div-mul}
+use mathlib.Core.Logic.{_↔_}
+use native.Mathlib.Nat.{div-add-mod', mod-lt, le-div-iff-mul-le, mul-pos, mul-le-mul-left, mul-le-mul-right, le-of-mul-le-mul-left, le-of-mul-le-mul-right, mul-div-cancel, div-div-eq-div-mul}
 use native.Mathlib.Omega.{arith}
 use Rattle.calendar.specs.declared.data.Constants.{Constants}
 use Rattle.calendar.specs.Steps.{solstice, solsticeDay, solsticeRemainder, step, DividesYear, moment, dayOf, partsOf, unitsOf}
@@ -130,6 +131,14 @@ module _ (c : Constants) (s : ℕ) (s-some : 0 < s) (solar-some : 0 < c .solar) 
 
   -- The last on a day before d: those up to it are on such a day, and no later one is.
   module _ (year-some : 0 < c .year) (d : ℕ) where
+    -- it is the last h with h Y < s D d
+    pub step-in-parts : 0 < d → (h : ℕ) → (h ≤ stepBefore c s d) ↔ (h * c .year < s * c .solar * d)
+    step-in-parts some h =
+        let all = mul-pos divisor-some some in (
+          λ l. omega (arith, le-div-iff-mul-le year-some .0 l),
+          λ l. le-div-iff-mul-le year-some .1 (omega arith),
+        )
+
     pub step-is-last : (h : ℕ) → dayOfStep c s h < d → h ≤ stepBefore c s d
     step-is-last h = last-of-below (c .year) (s * c .solar) divisor-some year-some h d
 

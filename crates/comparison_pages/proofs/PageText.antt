@@ -1,12 +1,9 @@
 -- The page of a comparison from its lines.
 use Prim.Native.Nat.{ℕ, _+_, _≤_}
 use mathlib.Core.Path.{_≡_, refl, subst, sym, ap, ap₂, _∙_}
-use mathlib.Core.Bool.{cond}
 use mathlib.Core.List.{List, [], _∷_, _++_, append-nil}
 use native.Mathlib.Omega.{arith}
-use lib.Dec.{eqb}
 use lib.ListN.{length, getD}
-use borrow.Author.Tests.{eq-eqb, ne-eqb}
 use Rattle.reckoning.specs.declared.data.Year.{Year}
 use Rattle.reckoning.specs.Requests.{yearOf}
 use Rattle.comparison.specs.declared.data.Comparison.{Comparison}
@@ -15,7 +12,7 @@ use Rattle.text.specs.Piece.{word, letterOf, year, line, refusedLine, textsUpTo
 use Rattle.text.specs.Put.{Put}
 use Rattle.text.specs.Wrote.{Wrote}
 use Rattle.text.proofs.Writing.{wrote-as, wrote-then, wrote-one-more}
-use Rattle.text.proofs.Putting.{Puts, put-wrote, put-then, put-last}
+use Rattle.text.proofs.Putting.{Puts, put-wrote, put-then, put-last, put-refusal, wrote-told}
 use Rattle.comparison_pages.specs.ComparisonPage.{lineStart, compareLine, placeLine, placeAt, placeLines, comparisonPage}
 
 -- The line of what is compared.
@@ -52,18 +49,14 @@ module _ {b a : List ℕ} {at e : ℕ} (first second : Year) (compared : Compari
       let all : i ≡ compared .count = omega arith in wrote-as (ap (textsUpTo (placeAt first second compared)) all) w
 
 -- The whole page: of a comparison answered, and of one refused.
-abbrev page-by : ℕ → ℕ → ℕ → Comparison → List ℕ
-page-by first second n v =
-    cond (eqb (v .refusal) 0)
-    (compareLine first second n (v .count) ++ placeLines (yearOf first n) (yearOf second n) v)
-    (refusedLine (v .refusal))
+abbrev told : ℕ → ℕ → ℕ → Comparison → List ℕ
+told first second n v = compareLine first second n (v .count) ++ placeLines (yearOf first n) (yearOf second n) v
 
 module _ {b a : List ℕ} {at e : ℕ} {compared : Comparison} (first second n : ℕ) (is : compared ≡ comparisonOf first second n) where
   pub put-refused : {rooms : ℕ} → (compared .refusal ≡ 0 → ⊥) → Puts b at rooms (refusedLine (compared .refusal)) a e
       → Puts b at rooms (comparisonPage first second n) a e
   unfolding comparisonPage
-  put-refused {rooms} h w =
-      subst (λ v. Puts b at rooms (page-by first second n v) a e) is (simp (ne-eqb (compared .refusal) 0 h) w)
+  put-refused h w = put-refusal (λ v. v .refusal) (told first second n) is h w
 
   pub wrote-page : {m : List ℕ} {p : ℕ} {of-first of-second : Year} → compared .refusal ≡ 0 → of-first ≡ yearOf first n → of-second ≡ yearOf second n
       → Wrote b at (compareLine first second n (compared .count)) m p
@@ -71,8 +64,8 @@ module _ {b a : List ℕ} {at e : ℕ} {compared : Comparison} (first second n :
       → Wrote b at (comparisonPage first second n) a e
   unfolding comparisonPage
   wrote-page h first-is second-is w v =
-      let places = wrote-as (ap₂ (λ f s. placeLines f s compared) first-is second-is) v in
-      subst (λ x. Wrote b at (page-by first second n x) a e) is (simp (eq-eqb (compared .refusal) 0 h) (wrote-then w places))
+      wrote-told (λ x. x .refusal) (told first second n) is h
+      (wrote-then w (wrote-as (ap₂ (λ f s. placeLines f s compared) first-is second-is) v))
 
   pub wrote-page-alone : compared .refusal ≡ 0 → compared .count ≡ 0
       → Wrote b at (compareLine first second n (compared .count)) a e
@@ -83,4 +76,4 @@ module _ {b a : List ℕ} {at e : ℕ} {compared : Comparison} (first second n :
       let nothing : textsUpTo places (compared .count) ≡ [] = ap (textsUpTo places) none in
       let line = compareLine first second n (compared .count) in
       let whole : line ≡ line ++ textsUpTo places (compared .count) = sym (append-nil line) ∙ ap (λ t. line ++ t) (sym nothing) in
-      subst (λ x. Wrote b at (page-by first second n x) a e) is (simp (eq-eqb (compared .refusal) 0 h) (wrote-as whole w))
+      wrote-told (λ x. x .refusal) (told first second n) is h (wrote-as whole w)

@@ -2,7 +2,6 @@
 use Prim.Native.Nat.{ℕ, suc, _-_}
 use mathlib.Core.Bool.{cond}
 use mathlib.Core.List.{List, [], _∷_, _++_}
-use lib.Dec.{eqb}
 use lib.IntN.{ℤ, pos, negsuc}
 use lib.ListN.{getD}
 use Rattle.reckoning.specs.declared.data.Year.{Year}
@@ -14,7 +13,7 @@ use Rattle.comparison.specs.declared.data.Difference.the-variants.{Days, FirstL
 use Rattle.comparison.specs.declared.data.Listed.{Listed}
 use Rattle.comparison.specs.Comparisons.{hasMonth, unused, comparisonOf}
 use Rattle.text.specs.Decimal.{decimal}
-use Rattle.text.specs.Piece.{word, field, letterOf, year, month, numbered, newline, line, refusedLine, textsUpTo}
+use Rattle.text.specs.Piece.{word, field, letterOf, year, month, numbered, newline, line, toldUnless, textsUpTo}
 
 -- "compare ", and the letter of the first system with a space after it.
 unfoldable pub lineStart : ℕ → List ℕ
@@ -65,6 +64,5 @@ placeLines first second compared = textsUpTo (placeAt first second compared) (co
 unfoldable pub comparisonPage : ℕ → ℕ → ℕ → List ℕ
 comparisonPage first second n =
     let compared = comparisonOf first second n in
-    cond (eqb (compared .refusal) 0)
+    toldUnless (compared .refusal)
     (compareLine first second n (compared .count) ++ placeLines (yearOf first n) (yearOf second n) compared)
-    (refusedLine (compared .refusal))

@@ -1,12 +1,9 @@
 -- The text of a page from its pieces.
 use Prim.Native.Nat.{ℕ, _+_, _*_, _-_, _≤_, _<_}
-use mathlib.Core.Path.{_≡_, ap, ap₂, subst}
-use mathlib.Core.Bool.{cond}
+use mathlib.Core.Path.{_≡_, ap, ap₂}
 use mathlib.Core.List.{List, [], _∷_, _++_}
 use native.Mathlib.Omega.{arith}
-use lib.Dec.{eqb}
 use lib.ListN.{length}
-use borrow.Author.Tests.{eq-eqb, ne-eqb}
 use Rattle.calendar.specs.SixtyDayName.{nameOf}
 use Rattle.reckoning.specs.declared.data.Days.{Days}
 use Rattle.reckoning.specs.declared.data.Sheet.{Sheet}
@@ -18,7 +15,7 @@ use Rattle.text.specs.Piece.{word, year, month, numbered, line, refusedLine, te
 use Rattle.text.specs.Put.{Put}
 use Rattle.text.specs.Wrote.{Wrote}
 use Rattle.text.proofs.Writing.{wrote-as, wrote-then, wrote-one-more}
-use Rattle.text.proofs.Putting.{Puts, put-wrote}
+use Rattle.text.proofs.Putting.{Puts, put-wrote, put-refusal, wrote-told}
 use Rattle.pages.specs.declared.steps.Steps.the-variants.{Qi}
 use Rattle.pages.specs.StepLines.{stepLines}
 use Rattle.pages.specs.Page.{yearLine, solsticeLine, solarLines, monthLine, monthLines, nextLine}
@@ -125,21 +122,19 @@ pub wrote-year-lines : {b m₁ m₂ m₃ a : List ℕ} {at p₁ p₂ p₃ e : �
 unfolding yearLines
 wrote-year-lines system n months days sheet w₁ w₂ w₃ w₄ = wrote-then w₁ (wrote-then w₂ (wrote-then w₃ w₄))
 
-abbrev page-by : ℕ → ℕ → Year → List ℕ
-page-by system n v =
-    cond (eqb (v .refusal) 0) (yearLines system n v ((daysOf system n) .length) (sheetOf system n)) (refusedLine (v .refusal))
+abbrev told : ℕ → ℕ → Year → List ℕ
+told system n v = yearLines system n v ((daysOf system n) .length) (sheetOf system n)
 
 module _ {b a : List ℕ} {at e : ℕ} {months : Year} (system n : ℕ) (is : months ≡ yearOf system n) where
   pub put-refused : {rooms : ℕ} → (months .refusal ≡ 0 → ⊥) → Puts b at rooms (refusedLine (months .refusal)) a e
       → Puts b at rooms (pageOf system n) a e
   unfolding pageOf
-  put-refused {rooms} h w =
-      subst (λ v. Puts b at rooms (page-by system n v) a e) is (simp (ne-eqb (months .refusal) 0 h) w)
+  put-refused h w = put-refusal (λ v. v .refusal) (told system n) is h w
 
   pub wrote-page : {days : Days} {sheet : Sheet} → months .refusal ≡ 0 → days ≡ daysOf system n → sheet ≡ sheetOf system n
       → Wrote b at (yearLines system n months (days .length) sheet) a e
       → Wrote b at (pageOf system n) a e
   unfolding pageOf
   wrote-page h days-is sheet-is w =
-      let told = wrote-as (ap₂ (λ d s. yearLines system n months (d .length) s) days-is sheet-is) w in
-      subst (λ v. Wrote b at (page-by system n v) a e) is (simp (eq-eqb (months .refusal) 0 h) told)
+      wrote-told (λ v. v .refusal) (told system n) is h
+      (wrote-as (ap₂ (λ d s. yearLines system n months (d .length) s) days-is sheet-is) w)

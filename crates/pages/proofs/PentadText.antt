@@ -1,10 +1,7 @@
 -- What is printed of pentads from its pieces.
 use Prim.Native.Nat.{ℕ}
 use mathlib.Core.Path.{_≡_, subst}
-use mathlib.Core.Bool.{cond}
 use mathlib.Core.List.{List, [], _∷_, _++_}
-use lib.Dec.{eqb}
-use borrow.Author.Tests.{eq-eqb, ne-eqb}
 use Rattle.reckoning.specs.declared.data.Moment.{Moment}
 use Rattle.reckoning.specs.declared.data.PentadInForce.{PentadInForce}
 use Rattle.reckoning.specs.Requests.{pentadOf, pentadInForce}
@@ -12,10 +9,10 @@ use Rattle.text.specs.Decimal.{decimal}
 use Rattle.text.specs.Piece.{word, letterOf, year, newline, line, refusedLine}
 use Rattle.text.specs.Wrote.{Wrote}
 use Rattle.text.proofs.Writing.{wrote-then}
-use Rattle.text.proofs.Putting.{Puts}
+use Rattle.text.proofs.Putting.{Puts, put-refusal, wrote-told}
 use Rattle.pages.specs.declared.steps.Steps.the-variants.{Pentads}
 use Rattle.pages.specs.StepLines.{stepLines}
-use Rattle.pages.specs.PentadPages.{pentadsLine, pentadsPage, inForceLine, lineOf, pentadLine}
+use Rattle.pages.specs.PentadPages.{pentadsLine, pentadsPage, inForceLine, pentadLine}
 
 module _ {b a : List ℕ} {at e rooms : ℕ} where
   pub put-pentads-line : (system n : ℕ)
@@ -32,34 +29,29 @@ module _ {b a : List ℕ} {at e rooms : ℕ} where
       subst (λ l. Puts b at rooms (decimal day ++ (word (32 ∷ l ∷ []) ++ line [] (n ∷ pentad ∷ []))) a e) is w
 
 -- The page of a year's pentads: refused and answered.
-abbrev page-by : ℕ → ℕ → Moment → List ℕ
-page-by system n first =
-    cond (eqb (first .refusal) 0) (pentadsLine system n ++ stepLines Pentads 72 system n) (refusedLine (first .refusal))
+abbrev told : ℕ → ℕ → Moment → List ℕ
+told system n v = pentadsLine system n ++ stepLines Pentads 72 system n
 
 module _ {b a : List ℕ} {at e : ℕ} (system n : ℕ) {first : Moment} (is : first ≡ pentadOf system n 0) where
   pub put-pentads-refused : {rooms : ℕ} → (first .refusal ≡ 0 → ⊥) → Puts b at rooms (refusedLine (first .refusal)) a e
       → Puts b at rooms (pentadsPage system n) a e
   unfolding pentadsPage
-  put-pentads-refused {rooms} h w =
-      subst (λ v. Puts b at rooms (page-by system n v) a e) is (simp (ne-eqb (first .refusal) 0 h) w)
+  put-pentads-refused h w = put-refusal (λ v. v .refusal) (told system n) is h w
 
   pub wrote-pentads : {m : List ℕ} {p : ℕ} → first .refusal ≡ 0 → Wrote b at (pentadsLine system n) m p
       → Wrote m p (stepLines Pentads 72 system n) a e
       → Wrote b at (pentadsPage system n) a e
   unfolding pentadsPage
-  wrote-pentads h w v =
-      subst (λ v. Wrote b at (page-by system n v) a e) is (simp (eq-eqb (first .refusal) 0 h) (wrote-then w v))
+  wrote-pentads h w v = wrote-told (λ x. x .refusal) (told system n) is h (wrote-then w v)
 
 -- The line of a day: refused and answered.
 module _ {b a : List ℕ} {at e : ℕ} (system day : ℕ) {found : PentadInForce} (is : found ≡ pentadInForce system day) where
   pub put-pentad-refused : {rooms : ℕ} → (found .refusal ≡ 0 → ⊥) → Puts b at rooms (refusedLine (found .refusal)) a e
       → Puts b at rooms (pentadLine system day) a e
   unfolding pentadLine
-  put-pentad-refused {rooms} h w =
-      subst (λ v. Puts b at rooms (lineOf system day v) a e) is (simp (ne-eqb (found .refusal) 0 h) w)
+  put-pentad-refused h w = put-refusal (λ v. v .refusal) (λ v. inForceLine day system (v .year) (v .pentad)) is h w
 
   pub wrote-pentad-line : found .refusal ≡ 0 → Wrote b at (inForceLine day system (found .year) (found .pentad)) a e
       → Wrote b at (pentadLine system day) a e
   unfolding pentadLine
-  wrote-pentad-line h w =
-      subst (λ v. Wrote b at (lineOf system day v) a e) is (simp (eq-eqb (found .refusal) 0 h) w)
+  wrote-pentad-line h w = wrote-told (λ v. v .refusal) (λ v. inForceLine day system (v .year) (v .pentad)) is h w

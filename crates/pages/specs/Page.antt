@@ -1,8 +1,6 @@
 -- The page that the almanac prints for a year: its lines, as bytes.
 use Prim.Native.Nat.{ℕ, _+_, _-_}
-use mathlib.Core.Bool.{cond}
 use mathlib.Core.List.{List, [], _∷_, _++_}
-use lib.Dec.{eqb}
 use lib.ListN.{getD}
 use Rattle.calendar.specs.SixtyDayName.{nameOf}
 use Rattle.reckoning.specs.declared.data.Sheet.{Sheet}
@@ -10,7 +8,7 @@ use Rattle.reckoning.specs.declared.data.Solstice.{Solstice}
 use Rattle.reckoning.specs.declared.data.Year.{Year}
 use Rattle.reckoning.specs.Requests.{solsticeOf, yearOf, sheetOf, daysOf}
 use Rattle.reckoning.specs.YearValue.{headIn, numberIn, leapIn}
-use Rattle.text.specs.Piece.{word, field, year, month, numbered, line, refusedLine, textsUpTo}
+use Rattle.text.specs.Piece.{word, field, year, month, numbered, line, toldUnless, textsUpTo}
 use Rattle.pages.specs.declared.steps.Steps.the-variants.{Qi}
 use Rattle.pages.specs.StepLines.{stepLines}
 
@@ -71,6 +69,4 @@ unfoldable pub pageOf : ℕ → ℕ → List ℕ
 pageOf system year =
     let months = yearOf system year in
     let days = (daysOf system year) .length in
-    cond (eqb (months .refusal) 0)
-    (yearLines system year months days (sheetOf system year))
-    (refusedLine (months .refusal))
+    toldUnless (months .refusal) (yearLines system year months days (sheetOf system year))

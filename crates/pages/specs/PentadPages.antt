@@ -1,12 +1,9 @@
 -- What the almanac prints of pentads, as bytes.
 use Prim.Native.Nat.{ℕ}
-use mathlib.Core.Bool.{cond}
 use mathlib.Core.List.{List, [], _∷_, _++_}
-use lib.Dec.{eqb}
-use Rattle.reckoning.specs.declared.data.PentadInForce.{PentadInForce}
 use Rattle.reckoning.specs.Requests.{pentadOf, pentadInForce}
 use Rattle.text.specs.Decimal.{decimal}
-use Rattle.text.specs.Piece.{word, letterOf, year, newline, line, refusedLine}
+use Rattle.text.specs.Piece.{word, letterOf, year, newline, line, toldUnless}
 use Rattle.pages.specs.declared.steps.Steps.the-variants.{Pentads}
 use Rattle.pages.specs.StepLines.{stepLines}
 
@@ -17,8 +14,7 @@ pentadsLine system n = word (112 ∷ 101 ∷ 110 ∷ 116 ∷ 97 ∷ 100 ∷ 115 
 -- The 72 pentads of a year, or the line of its refusal.
 unfoldable pub pentadsPage : ℕ → ℕ → List ℕ
 pentadsPage system year =
-    let refusal = (pentadOf system year 0) .refusal in
-    cond (eqb refusal 0) (pentadsLine system year ++ stepLines Pentads 72 system year) (refusedLine refusal)
+    toldUnless ((pentadOf system year 0) .refusal) (pentadsLine system year ++ stepLines Pentads 72 system year)
 
 -- A day, and the pentad in force at its end: the system's letter, the year, the pentad's number.
 unfoldable pub inForceLine : ℕ → ℕ → ℕ → ℕ → List ℕ
@@ -26,9 +22,7 @@ inForceLine day system n pentad =
     decimal day ++ (word (32 ∷ letterOf system ∷ []) ++ line [] (n ∷ pentad ∷ []))
 
 -- The pentad in force on a day, or the line of its refusal.
-abbrev pub lineOf : ℕ → ℕ → PentadInForce → List ℕ
-lineOf system day found =
-    cond (eqb (found .refusal) 0) (inForceLine day system (found .year) (found .pentad)) (refusedLine (found .refusal))
-
 unfoldable pub pentadLine : ℕ → ℕ → List ℕ
-pentadLine system day = lineOf system day (pentadInForce system day)
+pentadLine system day =
+    let found = pentadInForce system day in
+    toldUnless (found .refusal) (inForceLine day system (found .year) (found .pentad))

@@ -1,14 +1,15 @@
 -- Text put into an output where there is room for it.
 use Prim.Native.Nat.{ℕ, _+_, _-_, _≤_}
-use mathlib.Core.Path.{_≡_, refl, ap, sym, _∙_}
+use mathlib.Core.Path.{_≡_, refl, subst, ap, sym, _∙_}
 use mathlib.Core.Bool.{Bool, true, false}
 use mathlib.Core.List.{List, [], _++_}
 use native.Mathlib.Omega.{arith}
 use lib.ListN.{length, take, drop, length-append, length-drop}
 use lib.Seq.{length-take-le}
 use lib.Dec.{leb, ltb}
-use borrow.Author.Tests.{le-leb, leb-true, lt-ltb, le-ltb, ltb-false}
+use borrow.Author.Tests.{le-leb, leb-true, lt-ltb, le-ltb, ltb-false, eq-eqb, ne-eqb}
 use Rattle.calendar.proofs.Rising.{by-order}
+use Rattle.text.specs.Piece.{refusedLine, toldUnless}
 use Rattle.text.specs.Wrote.{Wrote}
 use Rattle.text.proofs.Writing.{wrote-none, wrote-then}
 use Rattle.text.specs.Put.{putInto, putEnd, Put}
@@ -100,3 +101,16 @@ put-three {r₁ = r₁} {r₂ = r₂} {r₃ = r₃} {rooms = rooms} q₁ q₂ q�
 pub all-put : {b x a : List ℕ} {at e rooms : ℕ} → Puts b at rooms x a e → at + rooms ≤ length b
     → Wrote b at x a e × (e ≤ at + rooms)
 all-put pieces h = pieces .wrote h
+
+-- What is told of the answer that was asked for, from the answer that was got.
+module _ {A : Type 0} (refusal : A → ℕ) (text : A → List ℕ) where
+  abbrev told-of : A → List ℕ
+  told-of v = toldUnless (refusal v) (text v)
+
+  module _ {got asked : A} (is : got ≡ asked) {b a : List ℕ} {at e : ℕ} where
+    pub put-refusal : {rooms : ℕ} → (refusal got ≡ 0 → ⊥) → Puts b at rooms (refusedLine (refusal got)) a e
+        → Puts b at rooms (told-of asked) a e
+    put-refusal {rooms} h w = subst (λ v. Puts b at rooms (told-of v) a e) is (simp (ne-eqb (refusal got) 0 h) w)
+
+    pub wrote-told : refusal got ≡ 0 → Wrote b at (text got) a e → Wrote b at (told-of asked) a e
+    wrote-told h w = subst (λ v. Wrote b at (told-of v) a e) is (simp (eq-eqb (refusal got) 0 h) w)

@@ -61,6 +61,10 @@ refusedLine number = refusedWith (number ∷ [])
 abbrev pub refusedTellingLine : ℕ → ℕ → List ℕ
 refusedTellingLine number told = refusedWith (number ∷ told ∷ [])
 
+-- What is told of an answer; of one that is refused, the line of its refusal.
+abbrev pub toldUnless : ℕ → List ℕ → List ℕ
+toldUnless refusal text = cond (eqb refusal 0) text (refusedLine refusal)
+
 -- The texts 0 to n - 1, in order.
 unfoldable pub textsUpTo : (ℕ → List ℕ) → ℕ → List ℕ
 textsUpTo text zero = []

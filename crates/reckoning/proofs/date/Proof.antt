@@ -27,14 +27,12 @@ of-day-requires c κs = search guantian-fits
 returns-2 : tie.Need-returns-2
 unfolding dateOf
 returns-2 c =
-    let picked = c .before in
-    let inside = picked .before .before in
-    let tested = inside .before in
-    let args = tested .before .args in
-    by-guantian (λ k. dateIn k (args .day .0)) noDate (args .system) (tested .outside .ensures) (inside .if1 .left)
+    let inside = c .before .before .before in
+    let args = inside .before .before .args in
+    by-guantian (λ k. dateIn k (args .day .0)) noDate (args .system) (inside .before .outside .ensures) (inside .if1 .left)
     (c .of-day .ensures)
-    (picked .before .if2 .taken)
-    (picked .guantian .ensures)
+    (c .before .before .if2 .taken)
+    (c .before .guantian .ensures)
 
 jiyuan-requires : tie.Need-jiyuan-requires
 jiyuan-requires c κs = search needs
@@ -45,14 +43,12 @@ of-day-requires-2 c κs = search jiyuan-fits
 returns-3 : tie.Need-returns-3
 unfolding dateOf
 returns-3 c =
-    let picked = c .before in
-    let inside = picked .before .before in
-    let tested = inside .before in
-    let args = tested .before .args in
-    by-jiyuan (λ k. dateIn k (args .day .0)) noDate (args .system) (tested .outside .ensures) (inside .if1 .left)
+    let inside = c .before .before .before in
+    let args = inside .before .before .args in
+    by-jiyuan (λ k. dateIn k (args .day .0)) noDate (args .system) (inside .before .outside .ensures) (inside .if1 .left)
     (c .of-day2 .ensures)
-    (picked .before .if2 .left)
-    (picked .jiyuan .ensures)
+    (c .before .before .if2 .left)
+    (c .before .jiyuan .ensures)
 
 pub date-spec : {M : Type 1} → statement M
 date-spec =
