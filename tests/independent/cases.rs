@@ -2,6 +2,7 @@
 //! papers 01 and 02, with the papers' numbers written out.
 
 use crate::citation::{answer, store, Refusal};
+use crate::heads;
 use crate::lines::lines;
 use crate::pentads::{in_force_line, page, Pentads};
 use crate::reckoning::{
@@ -36,6 +37,7 @@ pub fn run(tables: &Tables) -> Checks {
     told_months(tables, &mut checks);
     pages_of_pentads(&mut checks);
     pentads_in_force(&mut checks);
+    told_heads(tables, &mut checks);
     for system in 1..=2 {
         let table = tables.table(system).unwrap();
         facts(table, &mut checks);
@@ -379,6 +381,33 @@ fn pentads_in_force(checks: &mut Checks) {
     for day in ["0", "1721413", "2817145", "4294967295", "4297088104", "18446744073711672424"] {
         checks.same("Q-4, no such day", in_force_on("1", day), Err(7));
         checks.same("Q-4, no such day", in_force_on("2", day), Err(7));
+    }
+}
+
+/// The line of one year's head, or the refusal.
+fn head_of(tables: &Tables, system: &str, year: &str) -> Answer {
+    heads::line(tables, &Number::read(system).unwrap(), &Number::read(year).unwrap())
+}
+
+/// The heads of cases 2, 5 and 8, and those which follow on the years whose
+/// lengths cases 3 and 5 tell, as Q-5 wants them compared.
+fn told_heads(tables: &Tables, checks: &mut Checks) {
+    for (system, year, line) in [
+        ("1", "1092", "1092 2119892"),
+        ("1", "1093", "1093 2120247"),
+        ("1", "1094", "1094 2120601"),
+        ("1", "1095", "1095 2120985"),
+        ("2", "1106", "1106 2125001"),
+    ] {
+        checks.same("Q-5, head", head_of(tables, system, year), one_line(line));
+    }
+    for system in ["0", "3", "4294967297", "18446744073709551618"] {
+        checks.same("Q-5, no such system", head_of(tables, system, "1092"), Err(4));
+        checks.same("Q-5, no such system", head_of(tables, system, "0"), Err(4));
+    }
+    for year in ["0", "3001", "66628", "4294968388", "18446744073709552708"] {
+        checks.same("Q-5, no such year", head_of(tables, "1", year), Err(5));
+        checks.same("Q-5, no such year", head_of(tables, "2", year), Err(5));
     }
 }
 

@@ -5,6 +5,7 @@ mod almanac;
 mod cases;
 mod citation;
 mod compare;
+mod heads;
 mod lines;
 mod pentads;
 mod random;
@@ -20,6 +21,7 @@ use streams::ANSWERS;
 
 const USAGE: &str = "usage:
   independent year SYSTEM YEAR [LAST]
+  independent heads SYSTEM YEAR [LAST]
   independent compare FIRST SECOND YEAR [LAST]
   independent pentads SYSTEM YEAR [LAST]
   independent pentad SYSTEM DAY [LAST]
@@ -38,6 +40,8 @@ fn main() {
     let written = match words[..] {
         ["year", system, year] => year_pages(system, year, year, &mut out),
         ["year", system, year, last] => year_pages(system, year, last, &mut out),
+        ["heads", system, year] => heads(system, year, year, &mut out),
+        ["heads", system, year, last] => heads(system, year, last, &mut out),
         ["compare", first, second, year] => compare(first, second, year, year, &mut out),
         ["compare", first, second, year, last] => compare(first, second, year, last, &mut out),
         ["pentads", system, year] => pentad_pages(system, year, year, &mut out),
@@ -77,6 +81,11 @@ fn word(text: &str) -> u64 {
 fn year_pages(system: &str, year: &str, last: &str, out: &mut impl Write) -> io::Result<()> {
     let (tables, system) = (Tables::new(), number(system));
     answers(&number(year), &number(last), |year| almanac::page(&tables, &system, year), out)
+}
+
+fn heads(system: &str, year: &str, last: &str, out: &mut impl Write) -> io::Result<()> {
+    let (tables, system) = (Tables::new(), number(system));
+    answers(&number(year), &number(last), |year| heads::line(&tables, &system, year), out)
 }
 
 fn compare(first: &str, second: &str, year: &str, last: &str, out: &mut impl Write) -> io::Result<()> {

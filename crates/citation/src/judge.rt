@@ -118,7 +118,7 @@ fn unnamed(refusal: u8) -> Named
 fn named_by_ordinal(system: u32, year: u32, ordinal: Ordinal) -> Named
     ensures { λ r. ⌜ r ≡ namedByOrdinal system year (ordinal .0) ⌝ }
 {
-    let y = reckoning::days(system, year);
+    let y = reckoning::reckoned_days(system, year);
     if y.refusal != 0 {
         return unnamed(y.refusal);
     }

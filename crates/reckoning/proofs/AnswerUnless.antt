@@ -80,6 +80,22 @@ pub in-register-here : (system year : ℕ) (c : Constants) → constantsOf syste
 in-register-here system year c e z =
     subst (λ k. YearInRegister k (yearsElapsed k year)) e (year-in-register system year ((accepted system year z) .year-inside))
 
+-- What is asked by system and year and not refused: the constants are the system's, and the year lies within the
+-- register.
+module _ (system year : ℕ) {a : Asked} (e : a ≡ askedOf (yearRefusal system year) system year) (z : a .refusal ≡ 0) where
+  picked-here : constantsOf system ≡ a .c
+  picked-here = sym (ap (λ x. x .c) e)
+
+  accepted-here : yearRefusal system year ≡ 0
+  accepted-here = sym (ap (λ x. x .refusal) e) ∙ z
+
+  pub asked-of-system : (a .c ≡ constantsOf system) × YearInRegister (a .c) (yearsElapsed (a .c) year)
+  asked-of-system = (sym picked-here, in-register-here system year (a .c) picked-here accepted-here)
+
+  pub answered-of-system : {A : Type 0} (answer : Constants → ℕ → A) (blank : ℕ → A)
+      → answer (a .c) (yearsElapsed (a .c) year) ≡ answerUnless (yearRefusal system year) system year answer blank
+  answered-of-system answer blank = answered-here answer blank system year (a .c) picked-here accepted-here
+
 -- What is asked in scope lies within the register.
 pub asked-in-register : (a : Asked) (refusal system year : ℕ) → a ≡ askedOf refusal system year → InScope system year
     → YearInRegister (a .c) (a .n)

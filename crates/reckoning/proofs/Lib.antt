@@ -13,6 +13,8 @@ pub mod RefusedRequests
 pub mod MonthSpanLaws
 -- What the laws say of a year within the register.
 pub mod RegisterLaws
+-- The heads of years, printed and reckoned.
+pub mod HeadLaws
 -- The month of a year with a number and a leap mark.
 pub mod MonthRequest
 -- How the leap month of a year is found.

@@ -6,7 +6,7 @@ use Rattle.calendar.specs.declared.data.Constants.{Constants}
 use Rattle.calendar.specs.Steps.{solstice, solsticeDay, moment, dayOf}
 use Rattle.calendar.specs.Month.{monthHead}
 use Rattle.calendar.specs.Consistent.{Consistent}
-use Rattle.calendar.specs.ClosedForms.{firstMonth}
+use Rattle.calendar.specs.ClosedForms.{firstMonth, headOfYear}
 use Rattle.reckoning.specs.declared.month_spans.MonthSpan.{MonthSpan}
 use Rattle.reckoning.specs.MonthSpans.{monthSpan}
 
@@ -26,6 +26,12 @@ pub record ConstantsFit (c : Constants) : Type 0 where
 pub record InRegister (c : Constants) (d : ℕ) : Type 0 where
   pub from : c .anchor ≤ d
   pub before : d < c .anchor + 2 ^ 31
+
+-- Year n has a head with a register day.
+pub record HeadInRegister (c : Constants) (n : ℕ) : Type 0 where
+  pub constants-fit : ConstantsFit c
+  pub elapsed : n < 2 ^ 28
+  pub head : InRegister c (headOfYear c n)
 
 -- A month as the code has it, with room for the two after it.
 pub record SpanFits (c : Constants) (m : MonthSpan) : Type 0 where

@@ -37,6 +37,7 @@ pub mod refusal;
 pub mod refusal_numbers;
 mod solar;
 mod year_days;
+mod year_heads;
 
 // The winter solstice of a year.
 pub fn solstice(system: u32, year: u32) -> Solstice
@@ -83,7 +84,7 @@ pub fn year(system: u32, year: u32) -> Year
             leaps: [0u8; 14],
         };
     }
-    months::of_year(asked.c, asked.n)
+    months::of_year(system, asked.c, year)
 }
 
 // The day sheet of a year.
@@ -97,28 +98,36 @@ pub fn sheet(system: u32, year: u32) -> Sheet
             names: [255u8; 384],
         };
     }
-    names::of_year(asked.c, asked.n)
+    names::of_year(system, asked.c, year)
 }
-
-// Below are what a citation asks (days, a month, a date) and the pentad in force. They call once for each system, so that
-// the compiler knows the constants and need not divide by variables.
 
 // The days of a year.
 pub fn days(system: u32, year: u32) -> Days
     ensures { λ r. ⌜ r ≡ daysOf system year ⌝ }
 {
+    let asked = asked::of_year(system, year);
+    if asked.refusal != 0 {
+        return year_days::none(asked.refusal);
+    }
+    year_days::of_year(system, asked.c, year)
+}
+
+// Below are what a citation asks (days, a month, a date) and the pentad in force. They call once for each system, so that
+// the compiler knows the constants and need not divide by variables.
+
+// The days of a year as `days` has them, but with no printed head: the language lays the whole page out anew each time
+// that an entry is read, which takes longer than to reckon a head.
+pub fn reckoned_days(system: u32, year: u32) -> Days
+    ensures { λ r. ⌜ r ≡ daysOf system year ⌝ }
+{
     let refusal = refusal::of_year(system, year);
     if refusal != 0 {
-        return Days {
-            refusal: refusal,
-            head: RegisterDay(0),
-            length: 0,
-        };
+        return year_days::none(refusal);
     }
     if system == 1 {
-        return year_days::of_common_year(guantian(), year);
+        return year_days::reckoned(guantian(), year);
     }
-    year_days::of_common_year(jiyuan(), year)
+    year_days::reckoned(jiyuan(), year)
 }
 
 // The number of a year's leap month; 0 where it has none.

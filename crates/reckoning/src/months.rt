@@ -1,8 +1,8 @@
 // The months of one year: all of them, and one of them by number and leap mark.
 ghost use mathlib.Core.Path.{_≡_};
-ghost use Rattle.calendar.specs.Systems.{yearsElapsed};
+ghost use Rattle.calendar.specs.Systems.{constantsOf, yearsElapsed};
 ghost use Rattle.reckoning.specs.MonthSpans.{monthSpan};
-ghost use Rattle.reckoning.specs.Requests.{monthsFrom, yearIn, monthAt, noMonthTelling, noMonth, monthIn};
+ghost use Rattle.reckoning.specs.Requests.{headAt, monthsFrom, yearIn, monthAt, noMonthTelling, noMonth, monthIn};
 ghost use Rattle.reckoning.specs.WordBounds.{InRegister, SpanFits, MonthsInRegister, YearInRegister};
 use crate::closed_forms::day_of_qi;
 use crate::closed_forms::number_of_qi;
@@ -12,18 +12,18 @@ use crate::data::Month;
 use crate::data::Year;
 use crate::month_spans::MonthSpan;
 use crate::month_spans::after;
-use crate::month_spans::first_of_year;
 use crate::month_spans::last_qi;
 use crate::month_spans::of_qi;
 use crate::refusal::outside;
 use crate::refusal_numbers::LEAP;
 use crate::refusal_numbers::MONTH;
+use crate::year_heads::first_month;
 use calendar::data::Constants;
 use calendar::data::RegisterDay;
 
 // `count` months from month `first` on: in order each head, number and leap mark, then the head after them.
-fn list(c: Constants, first: MonthSpan, count: usize) -> Year
-    requires { ⌜ (first ≡ monthSpan c (first .month)) × MonthsInRegister c (first .month) count ⌝ }
+fn list(c: Constants, first: MonthSpan, count: usize, closing: RegisterDay) -> Year
+    requires { ⌜ (first ≡ monthSpan c (first .month)) × (closing ≡ headAt c (first .month) count) × MonthsInRegister c (first .month) count ⌝ }
     ensures { λ r. ⌜ r ≡ monthsFrom c (first .month) count ⌝ }
 {
     let mut heads = [RegisterDay(0); 14];
@@ -40,8 +40,7 @@ fn list(c: Constants, first: MonthSpan, count: usize) -> Year
         m = after(c, m);
         i += 1;
     }
-    let next = register_day(c, m.head);
-    heads[count] = next;
+    heads[count] = closing;
     Year {
         refusal: 0,
         count: count as u8,
@@ -51,14 +50,15 @@ fn list(c: Constants, first: MonthSpan, count: usize) -> Year
     }
 }
 
-// The months of year n.
-pub(crate) fn of_year(c: Constants, n: u64) -> Year
-    requires { ⌜ YearInRegister c n ⌝ }
-    ensures { λ r. ⌜ r ≡ yearIn c n ⌝ }
+// The months of a year.
+pub(crate) fn of_year(system: u32, c: Constants, year: u32) -> Year
+    requires { ⌜ (c ≡ constantsOf system) × YearInRegister c (yearsElapsed c year) ⌝ }
+    ensures { λ r. ⌜ r ≡ yearIn c (yearsElapsed c year) ⌝ }
 {
-    let first = first_of_year(c, n);
-    let next = first_of_year(c, n + 1);
-    list(c, first, (next.month - first.month) as usize)
+    let first = first_month(system, c, year);
+    let next = first_month(system, c, year + 1);
+    let closing = register_day(c, next.head);
+    list(c, first, (next.month - first.month) as usize, closing)
 }
 
 // Month m.

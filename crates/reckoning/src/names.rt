@@ -1,6 +1,7 @@
 // The names of one year's days.
 ghost use mathlib.Core.Path.{_≡_};
 ghost use Prim.Native.Nat.{_≤_, _<_, _^_};
+ghost use Rattle.calendar.specs.Systems.{constantsOf, yearsElapsed};
 ghost use Rattle.calendar.specs.SixtyDayName.{nameOf};
 ghost use Rattle.reckoning.specs.Requests.{sheetIn, nameAt, noNames};
 ghost use Rattle.reckoning.specs.Filled.{filled};
@@ -33,12 +34,12 @@ fn names_from(head: RegisterDay, length: usize) -> [u8; 384]
     names
 }
 
-// The day sheet of year n.
-pub(crate) fn of_year(c: Constants, n: u64) -> Sheet
-    requires { ⌜ YearInRegister c n ⌝ }
-    ensures { λ r. ⌜ r ≡ sheetIn c n ⌝ }
+// The day sheet of a year.
+pub(crate) fn of_year(system: u32, c: Constants, year: u32) -> Sheet
+    requires { ⌜ (c ≡ constantsOf system) × YearInRegister c (yearsElapsed c year) ⌝ }
+    ensures { λ r. ⌜ r ≡ sheetIn c (yearsElapsed c year) ⌝ }
 {
-    let days = year_days::of_year(c, n);
+    let days = year_days::of_year(system, c, year);
     let names = names_from(days.head, days.length as usize);
     Sheet {
         refusal: 0,

@@ -1,33 +1,30 @@
 // The days of one year.
 ghost use mathlib.Core.Path.{_≡_};
-ghost use Prim.Native.Nat.{_<_, _^_};
-ghost use Rattle.calendar.specs.Systems.{yearsElapsed, registerDay};
-ghost use Rattle.calendar.specs.ClosedForms.{headOfYear};
-ghost use Rattle.reckoning.specs.Requests.{daysIn};
-ghost use Rattle.reckoning.specs.WordBounds.{ConstantsFit, InRegister, YearInRegister};
-use crate::closed_forms::register_day;
+ghost use Prim.Native.Nat.{_-_, _≤_};
+ghost use Rattle.calendar.specs.Systems.{constantsOf, yearsElapsed};
+ghost use Rattle.reckoning.specs.Requests.{noDays, daysIn};
+ghost use Rattle.reckoning.specs.WordBounds.{YearInRegister};
 use crate::closed_forms::years_elapsed;
 use crate::data::Days;
-use crate::month_spans::first_of_year;
+use crate::year_heads;
 use calendar::data::Constants;
 use calendar::data::RegisterDay;
 
-// The register day of the head of year n.
-fn year_head(c: Constants, n: u64) -> RegisterDay
-    requires { ⌜ ConstantsFit c × (n < 2 ^ 28) × InRegister c (headOfYear c n) ⌝ }
-    ensures { λ r. ⌜ r ≡ record { 0 = registerDay c (headOfYear c n) } ⌝ }
+pub(crate) fn none(refusal: u8) -> Days
+    ensures { λ r. ⌜ r ≡ noDays refusal ⌝ }
 {
-    let first = first_of_year(c, n);
-    register_day(c, first.head)
+    Days {
+        refusal: refusal,
+        head: RegisterDay(0),
+        length: 0,
+    }
 }
 
-// The days of year n.
-pub(crate) fn of_year(c: Constants, n: u64) -> Days
-    requires { ⌜ YearInRegister c n ⌝ }
-    ensures { λ r. ⌜ r ≡ daysIn c n ⌝ }
+// The days from a year's head to the next year's.
+fn between(head: RegisterDay, next: RegisterDay) -> Days
+    requires { ⌜ (head .0 ≤ next .0) × (next .0 - head .0 ≤ 384) ⌝ }
+    ensures { λ r. ⌜ r ≡ record { refusal = 0; head = head; length = next .0 - head .0 } ⌝ }
 {
-    let head = year_head(c, n);
-    let next = year_head(c, n + 1);
     Days {
         refusal: 0,
         head: head,
@@ -35,9 +32,23 @@ pub(crate) fn of_year(c: Constants, n: u64) -> Days
     }
 }
 
-pub(crate) fn of_common_year(c: Constants, year: u32) -> Days
+// The days of a year, by its printed head and the next year's where there are such.
+pub(crate) fn of_year(system: u32, c: Constants, year: u32) -> Days
+    requires { ⌜ (c ≡ constantsOf system) × YearInRegister c (yearsElapsed c year) ⌝ }
+    ensures { λ r. ⌜ r ≡ daysIn c (yearsElapsed c year) ⌝ }
+{
+    let head = year_heads::of_year(system, c, year);
+    let next = year_heads::of_year(system, c, year + 1);
+    between(head, next)
+}
+
+// The same, reckoned.
+pub(crate) fn reckoned(c: Constants, year: u32) -> Days
     requires { ⌜ YearInRegister c (yearsElapsed c year) ⌝ }
     ensures { λ r. ⌜ r ≡ daysIn c (yearsElapsed c year) ⌝ }
 {
-    of_year(c, years_elapsed(c, year))
+    let n = years_elapsed(c, year);
+    let head = year_heads::reckoned(c, n);
+    let next = year_heads::reckoned(c, n + 1);
+    between(head, next)
 }

@@ -1,80 +1,29 @@
-use mathlib.Core.Path.{_≡_, sym, _∙_}
-use Rattle.calendar.specs.Systems.{constantsOf}
-use Rattle.reckoning.specs.ComputedRefusals.{yearRefusal}
+use mathlib.Core.Path.{_∙_}
 use Rattle.reckoning.specs.Requests.{daysIn, noDays, daysOf}
-use Rattle.reckoning.proofs.AnswerUnless.{refused-here, answered-here, picks-guantian, picks-jiyuan, in-register-here}
+use Rattle.reckoning.proofs.AnswerUnless.{refused, asked-of-system, answered-of-system}
 use borrow.Author.Needs.{needs}
 use Rattle.reckoning.proofs.days.Statement.{statement}
 use Rattle.reckoning.proofs.days.Tie as tie
 
--- The places that the answers go back to, each from the one after it.
-abbrev request : tie.Else1 → tie.Start
-request c = c .before .before
-
-abbrev first : tie.After-guantian → tie.Else1
-first c = c .before .before
-
-abbrev second : tie.After-jiyuan → tie.Else1
-second c = c .before .before
-
--- The request is not refused, and the constants are those of its system.
-accepted : (c : tie.Else1) → yearRefusal (request c .args .system) (request c .args .year) ≡ 0
-accepted c = sym (c .before .of-year .ensures) ∙ c .if1 .left
-
-guantian-picked : (c : tie.After-guantian) → constantsOf (request (first c) .args .system) ≡ c .guantian .result
-guantian-picked c = picks-guantian _ (c .before .if2 .taken) ∙ sym (c .guantian .ensures)
-
-jiyuan-picked : (c : tie.After-jiyuan) → constantsOf (request (second c) .args .system) ≡ c .jiyuan .result
-jiyuan-picked c = picks-jiyuan _ (c .before .if2 .left) ∙ sym (c .jiyuan .ensures)
-
 of-year-requires : tie.Need-of-year-requires
 of-year-requires c κs = search needs
 
+none-requires : tie.Need-none-requires
+none-requires c κs = search needs
+
 returns : tie.Need-returns
 unfolding daysOf
-returns c = refused-here daysIn noDays _ _ _ (c .before .of-year .ensures) (c .if1 .taken)
+returns c = c .none .ensures ∙ refused daysIn noDays _ _ (c .before .before .before .of-year .ensures) (c .before .if1 .taken)
 
-guantian-requires : tie.Need-guantian-requires
-guantian-requires c κs = search needs
-
-of-common-year-requires : tie.Need-of-common-year-requires
-of-common-year-requires c κs =
-    let args = request (first c) .args in
-    in-register-here (args .system) (args .year) _ (guantian-picked c) (accepted (first c))
+of-year-requires-2 : tie.Need-of-year-requires-2
+of-year-requires-2 c κs = asked-of-system _ _ (c .before .before .of-year .ensures) (c .if1 .left)
 
 returns-2 : tie.Need-returns-2
 unfolding daysOf
 returns-2 c =
-    let there = first (c .before) in
-    let args = request there .args in
-    let answered = answered-here daysIn noDays (args .system) (args .year) in
-    c .of-common-year .ensures ∙ answered _ (guantian-picked (c .before)) (accepted there)
-
-jiyuan-requires : tie.Need-jiyuan-requires
-jiyuan-requires c κs = search needs
-
-of-common-year-requires-2 : tie.Need-of-common-year-requires-2
-of-common-year-requires-2 c κs =
-    let args = request (second c) .args in
-    in-register-here (args .system) (args .year) _ (jiyuan-picked c) (accepted (second c))
-
-returns-3 : tie.Need-returns-3
-unfolding daysOf
-returns-3 c =
-    let there = second (c .before) in
-    let args = request there .args in
-    let answered = answered-here daysIn noDays (args .system) (args .year) in
-    c .of-common-year2 .ensures ∙ answered _ (jiyuan-picked (c .before)) (accepted there)
+    let asked = c .before .before .before in
+    c .of-year2 .ensures ∙ answered-of-system _ _ (asked .of-year .ensures) (c .before .if1 .left) daysIn noDays
 
 pub days-spec : {M : Type 1} → statement M
 days-spec =
-    tie.close
-    (tie.spec
-    of-year-requires
-    returns
-    guantian-requires
-    of-common-year-requires
-    returns-2
-    jiyuan-requires
-    of-common-year-requires-2
-    returns-3)
+    tie.close (tie.spec of-year-requires none-requires returns of-year-requires-2 returns-2)

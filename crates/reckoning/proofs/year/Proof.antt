@@ -1,7 +1,6 @@
-use mathlib.Core.Path.{sym, ap, _∙_}
+use mathlib.Core.Path.{_∙_}
 use Rattle.reckoning.specs.Requests.{yearIn, noYear, yearOf}
-use Rattle.reckoning.proofs.RefusalCases.{accepted}
-use Rattle.reckoning.proofs.AnswerUnless.{refused, answered, asked-in-register}
+use Rattle.reckoning.proofs.AnswerUnless.{refused, asked-of-system, answered-of-system}
 use borrow.Author.Needs.{needs}
 use Rattle.reckoning.proofs.year.Statement.{statement}
 use Rattle.reckoning.proofs.year.Tie as tie
@@ -14,13 +13,13 @@ unfolding yearOf
 returns c = refused yearIn noYear _ _ (c .before .before .of-year .ensures) (c .if1 .taken)
 
 of-year-requires-2 : tie.Need-of-year-requires-2
-of-year-requires-2 c κs =
-    let asked = c .before .before .of-year .ensures in
-    asked-in-register _ _ _ _ asked (accepted _ _ (sym (ap (λ a. a .refusal) asked) ∙ c .if1 .left))
+of-year-requires-2 c κs = asked-of-system _ _ (c .before .before .of-year .ensures) (c .if1 .left)
 
 returns-2 : tie.Need-returns-2
 unfolding yearOf
-returns-2 c = c .of-year2 .ensures ∙ answered yearIn noYear _ _ (c .before .before .before .of-year .ensures) (c .before .if1 .left)
+returns-2 c =
+    let asked = c .before .before .before in
+    c .of-year2 .ensures ∙ answered-of-system _ _ (asked .of-year .ensures) (c .before .if1 .left) yearIn noYear
 
 pub year-spec : {M : Type 1} → statement M
 year-spec = tie.close (tie.spec of-year-requires returns of-year-requires-2 returns-2)

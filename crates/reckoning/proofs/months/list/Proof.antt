@@ -13,7 +13,7 @@ use Rattle.reckoning.proofs.months.list.Statement.{statement}
 use Rattle.reckoning.proofs.months.list.Tie as tie
 
 abbrev Inv-loop : tie.InvT-loop
-Inv-loop c count heads₀ numbers₀ leaps₀ m₀ i₀ heads numbers leaps m i =
+Inv-loop c count closing heads₀ numbers₀ leaps₀ m₀ i₀ heads numbers leaps m i =
     (i ≤ count)
     × (m ≡ monthSpan c (m₀ .month + i))
     × (heads ≡ filled (headAt c (m₀ .month)) noHeads i)
@@ -21,7 +21,7 @@ Inv-loop c count heads₀ numbers₀ leaps₀ m₀ i₀ heads numbers leaps m i 
     × (leaps ≡ filled (leapAt c (m₀ .month)) noMarks i)
 
 abbrev μ-loop : tie.MeasureT-loop
-μ-loop c count heads₀ numbers₀ leaps₀ m₀ i₀ heads numbers leaps m i = count - i
+μ-loop c count closing heads₀ numbers₀ leaps₀ m₀ i₀ heads numbers leaps m i = count - i
 
 loop-holds : tie.Need-loop-holds Inv-loop μ-loop
 loop-holds c =
@@ -29,10 +29,10 @@ loop-holds c =
     (omega arith, c .pre .0 ∙ ap (monthSpan (c .args .c)) start, filled-none _ _, filled-none _ _, filled-none _ _)
 
 register-day-requires : tie.Need-register-day-requires Inv-loop μ-loop
-register-day-requires c κs = head-in-register (c .before .before .pre .1) _ (omega arith) (c .before .loop .inv .1)
+register-day-requires c κs = head-in-register (c .before .before .pre .2) _ (omega arith) (c .before .loop .inv .1)
 
 last-qi-requires : tie.Need-last-qi-requires Inv-loop μ-loop
-last-qi-requires c κs = month-fits (c .before .before .before .pre .1) _ (omega arith) (c .before .before .loop .inv .1)
+last-qi-requires c κs = month-fits (c .before .before .before .pre .2) _ (omega arith) (c .before .before .loop .inv .1)
 
 mul-heads : tie.Need-mul-heads Inv-loop μ-loop
 mul-heads c = search needs
@@ -52,7 +52,7 @@ array-write-leaps c = search needs
 after-requires : tie.Need-after-requires Inv-loop μ-loop
 after-requires c κs =
     let loop = c .before .before .before .before in
-    month-fits (loop .before .pre .1) _ (omega arith) (loop .loop .inv .1)
+    month-fits (loop .before .pre .2) _ (omega arith) (loop .loop .inv .1)
 
 add-i : tie.Need-add-i Inv-loop μ-loop
 add-i c = search needs
@@ -76,9 +76,6 @@ loop-again c =
       filled-more _ _ _ _ _ (inv .4) (ap (λ x. x .leap) last),
     )
 
-register-day-requires-2 : tie.Need-register-day-requires-2 Inv-loop μ-loop
-register-day-requires-2 c κs = head-in-register (c .before .before .pre .1) _ (omega arith) (c .before .loop .inv .1)
-
 mul-heads-2 : tie.Need-mul-heads-2 Inv-loop μ-loop
 mul-heads-2 c = search needs
 
@@ -91,15 +88,12 @@ cast-t25 c = search needs
 returns : tie.Need-returns Inv-loop μ-loop
 unfolding monthsFrom
 returns c =
-    let start = c .before .before .before in
+    let start = c .before .before in
     let count = start .args .count in
-    let loop = c .before .before .loop in
+    let loop = c .before .loop in
     let inv = loop .inv in
     let e : loop .i ≡ count = omega arith in
-    let constants = start .args .c in
-    let last = inv .1 ∙ ap (λ i. monthSpan constants (start .args .first .month + i)) e in
-    let head = ap (λ x. asRegisterDay (registerDay constants (x .head))) last in
-    let heads = filled-more _ _ _ _ _ (inv .2 ∙ ap (filled _ noHeads) e) (c .register-day2 .ensures ∙ head) in
+    let heads = filled-more _ _ _ _ _ (inv .2 ∙ ap (filled _ noHeads) e) (start .pre .1) in
     let numbers = inv .3 ∙ ap (filled _ noMarks) e in
     let leaps = inv .4 ∙ ap (filled _ noMarks) e in
     λ j. record { refusal = 0; count = count; heads = heads j; numbers = numbers j; leaps = leaps j }
@@ -122,7 +116,6 @@ list-spec =
     add-i
     loop-less
     loop-again
-    register-day-requires-2
     mul-heads-2
     array-set-from-heads-2
     cast-t25

@@ -1,64 +1,70 @@
-use mathlib.Core.Path.{ap, ap₂, _∙_, subst₂, sym}
-use Prim.Native.Nat.{_-_}
-use native.Mathlib.Omega.{arith}
+use mathlib.Core.Path.{_≡_, subst, sym, ap, _∙_}
+use Prim.Native.Nat.{_+_}
+use Rattle.calendar.specs.Systems.{yearsElapsed}
+use Rattle.calendar.specs.ClosedForms.{firstMonth}
 use Rattle.reckoning.specs.MonthSpans.{monthSpan}
-use Rattle.reckoning.specs.WordBounds.{MonthsInRegister}
-use Rattle.reckoning.specs.Requests.{monthsFrom}
-use Rattle.calendar.proofs.EveryCalendar.{count-least}
-use Rattle.calendar.proofs.Reckoned.{reckoned}
-use Rattle.reckoning.proofs.RegisterLaws.{months-in-register}
+use Rattle.reckoning.specs.WordBounds.{InRegister, HeadInRegister}
+use Rattle.reckoning.proofs.HeadLaws.{year-after, head-of, head-after, months-rise, months-listed, months-of}
 use borrow.Author.Needs.{needs}
 use Rattle.reckoning.proofs.months.of_year.Statement.{statement}
 use Rattle.reckoning.proofs.months.of_year.Tie as tie
 
 -- Both years' first months are reckoned here.
-abbrev reckoned-here : tie.After-struct-known2 → tie.After-first-of-year2
-reckoned-here c = c .before .before
+abbrev start : tie.After-first-month2 → tie.Start
+start c = c .before .before
 
-first-of-year-requires : tie.Need-first-of-year-requires
-first-of-year-requires c κs = search needs
+abbrev listed : tie.After-struct-known2 → tie.After-first-month2
+listed c = c .before .before .before
 
-add-first-of-year : tie.Need-add-first-of-year
-add-first-of-year c = search needs
+first-is : (c : tie.After-first-month2)
+    → c .before .first-month .result ≡ monthSpan (start c .args .c) (firstMonth (start c .args .c) (yearsElapsed (start c .args .c) (start c .args .year)))
+first-is c = c .before .first-month .ensures
 
-first-of-year-requires-2 : tie.Need-first-of-year-requires-2
-first-of-year-requires-2 c κs = search needs
+next-is : (c : tie.After-first-month2)
+    → c .first-month2 .result ≡ monthSpan (start c .args .c) (firstMonth (start c .args .c) (yearsElapsed (start c .args .c) (start c .args .year) + 1))
+next-is c =
+    let k = start c .args .c in
+    c .first-month2 .ensures ∙ ap (λ n. monthSpan k (firstMonth k n)) (year-after (start c .args .year) (start c .pre .1))
+
+first-month-requires : tie.Need-first-month-requires
+first-month-requires c κs = (c .pre .0, head-of (c .pre .1))
+
+add-first-month : tie.Need-add-first-month
+add-first-month c = search needs
+
+first-month-requires-2 : tie.Need-first-month-requires-2
+first-month-requires-2 c κs =
+    let k = c .before .args .c in
+    (c .before .pre .0, subst (HeadInRegister k) (sym (year-after (c .before .args .year) (c .before .pre .1))) (head-after (c .before .pre .1)))
+
+register-day-requires : tie.Need-register-day-requires
+register-day-requires c κs =
+    let k = start c .args .c in
+    subst (λ m. InRegister k (m .head)) (sym (next-is c)) (head-after (start c .pre .1) .head)
 
 sub-list : tie.Need-sub-list
 sub-list c =
-    let here = reckoned-here c in
-    let start = here .before .before in
-    let K = reckoned (start .args .c) (start .pre .constants-fit .consistent) in
-    let first = ap (λ m. m .month) (here .before .first-of-year .ensures) in
-    let next = ap (λ m. m .month) (here .first-of-year2 .ensures) in
-    omega (arith, count-least K (start .args .n))
+    let here = listed c in
+    months-rise (start here .pre .1) (first-is here) (next-is here)
 
 list-requires : tie.Need-list-requires
 list-requires c κs =
-    let here = reckoned-here c in
-    let start = here .before .before in
-    let first-is = here .before .first-of-year .ensures in
-    let first = sym (ap (λ m. m .month) first-is) in
-    let next = sym (ap (λ m. m .month) (here .first-of-year2 .ensures)) in (
-      first-is ∙ ap (monthSpan (start .args .c)) first,
-      subst₂ (λ f m. MonthsInRegister (start .args .c) f (m - f)) first next (months-in-register _ _ (start .pre)),
-    )
+    let here = listed c in
+    months-listed (start here .pre .1) (first-is here) (next-is here) (c .before .before .register-day .ensures)
 
 returns : tie.Need-returns
 returns c =
-    let here = reckoned-here (c .before) in
-    let k = here .before .before .args .c in
-    let first = ap (λ m. m .month) (here .before .first-of-year .ensures) in
-    let next = ap (λ m. m .month) (here .first-of-year2 .ensures) in
-    c .list .ensures ∙ ap₂ (λ f m. monthsFrom k f (m - f)) first next
+    let here = listed (c .before) in
+    c .list .ensures ∙ months-of (start here .pre .1) (first-is here) (next-is here)
 
 pub of-year-spec : {M : Type 1} → statement M
 of-year-spec =
     tie.close
     (tie.spec
-    first-of-year-requires
-    add-first-of-year
-    first-of-year-requires-2
+    first-month-requires
+    add-first-month
+    first-month-requires-2
+    register-day-requires
     sub-list
     list-requires
     returns)

@@ -15,7 +15,7 @@ cast-names-from c = search needs
 
 names-from-requires : tie.Need-names-from-requires
 names-from-requires c κs =
-    let most = register-length-most _ _ (c .before .before .pre) in
+    let most = register-length-most _ _ (c .before .before .pre .1) in
     subst (λ d. d .length ≤ 384) (sym (c .before .of-year .ensures)) most
 
 returns : tie.Need-returns

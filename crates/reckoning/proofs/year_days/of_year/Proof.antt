@@ -1,43 +1,43 @@
-use mathlib.Core.Path.{ap, ap₂, subst₂, sym}
-use Prim.Native.Nat.{_-_, _≤_}
-use native.Mathlib.Omega.{arith}
-use Rattle.reckoning.proofs.RegisterLaws.{first-head, next-head, register-rises, register-length-most}
+use mathlib.Core.Path.{_≡_, subst, sym, ap, _∙_}
+use Prim.Native.Nat.{_+_}
+use Rattle.calendar.specs.Systems.{yearsElapsed, registerDay}
+use Rattle.calendar.specs.ClosedForms.{headOfYear}
+use Rattle.reckoning.specs.WordBounds.{HeadInRegister}
+use Rattle.reckoning.specs.Requests.{asRegisterDay}
+use Rattle.reckoning.proofs.HeadLaws.{year-after, head-of, head-after, days-between, days-of}
 use borrow.Author.Needs.{needs}
 use Rattle.reckoning.proofs.year_days.of_year.Statement.{statement}
 use Rattle.reckoning.proofs.year_days.of_year.Tie as tie
 
-year-head-requires : tie.Need-year-head-requires
-year-head-requires c κs = (c .pre .constants-fit, omega arith, first-head _ _ (c .pre))
+-- The next year's head is reckoned here, and what the next year's is.
+abbrev start : tie.After-of-year2 → tie.Start
+start c = c .before .before
 
-add-year-head : tie.Need-add-year-head
-add-year-head c = search needs
+next-is : (c : tie.After-of-year2)
+    → c .of-year2 .result ≡ asRegisterDay (registerDay (start c .args .c) (headOfYear (start c .args .c) (yearsElapsed (start c .args .c) (start c .args .year) + 1)))
+next-is c =
+    let k = start c .args .c in
+    c .of-year2 .ensures ∙ ap (λ n. asRegisterDay (registerDay k (headOfYear k n))) (year-after (start c .args .year) (start c .pre .1))
 
-year-head-requires-2 : tie.Need-year-head-requires-2
-year-head-requires-2 c κs = (c .before .pre .constants-fit, omega arith, next-head _ _ (c .before .pre))
+of-year-requires : tie.Need-of-year-requires
+of-year-requires c κs = (c .pre .0, head-of (c .pre .1))
 
-sub-t6 : tie.Need-sub-t6
-sub-t6 c =
-    let head = c .before .before .before in
-    let head-is = ap (λ d. d .0) (head .year-head .ensures) in
-    let next-is = ap (λ d. d .0) (c .before .before .year-head2 .ensures) in
-    subst₂ (λ a b. a ≤ b) (sym head-is) (sym next-is) (register-rises _ _ (head .before .pre))
+add-of-year : tie.Need-add-of-year
+add-of-year c = search needs
 
-cast-t7 : tie.Need-cast-t7
-cast-t7 c =
-    let head = c .before .before .before in
-    let head-is = ap (λ d. d .0) (head .year-head .ensures) in
-    let next-is = ap (λ d. d .0) (c .before .before .year-head2 .ensures) in
-    let most = subst₂ (λ a b. b - a ≤ 384) (sym head-is) (sym next-is) (register-length-most _ _ (head .before .pre)) in
-    omega arith
+of-year-requires-2 : tie.Need-of-year-requires-2
+of-year-requires-2 c κs =
+    let k = c .before .args .c in
+    (c .before .pre .0, subst (HeadInRegister k) (sym (year-after (c .before .args .year) (c .before .pre .1))) (head-after (c .before .pre .1)))
+
+between-requires : tie.Need-between-requires
+between-requires c κs = days-between (start c .pre .1) (c .before .of-year .ensures) (next-is c)
 
 returns : tie.Need-returns
 returns c =
-    let head = c .before .before .before .year-head .ensures in
-    let next = c .before .before .year-head2 .ensures in
-    let length = ap₂ (λ a b. b - a) (ap (λ d. d .0) head) (ap (λ d. d .0) next) in
-    λ j. record { refusal = 0; head = head j; length = length j }
+    let next = c .before in
+    c .between .ensures ∙ days-of (start next .pre .1) (next .before .of-year .ensures) (next-is next)
 
 pub of-year-spec : {M : Type 1} → statement M
 of-year-spec =
-    tie.close
-    (tie.spec year-head-requires add-year-head year-head-requires-2 sub-t6 cast-t7 returns)
+    tie.close (tie.spec of-year-requires add-of-year of-year-requires-2 between-requires returns)

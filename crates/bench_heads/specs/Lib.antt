@@ -1,0 +1,2 @@
+-- The head of a year.
+pub mod YearHead

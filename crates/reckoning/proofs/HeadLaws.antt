@@ -1,0 +1,86 @@
+-- The heads of years, printed and reckoned.
+use Prim.Native.Nat.{ℕ, _+_, _-_, _≤_}
+use mathlib.Core.Path.{_≡_, sym, ap, ap₂, subst, subst₂, _∙_}
+use native.Mathlib.Omega.{arith}
+use Rattle.calendar.specs.declared.data.Constants.{Constants}
+use Rattle.calendar.specs.declared.data.RegisterDay.{RegisterDay}
+use Rattle.calendar.specs.Systems.{yearsElapsed, registerDay}
+use Rattle.calendar.specs.Month.{monthHead}
+use Rattle.calendar.specs.Consistent.{Consistent}
+use Rattle.calendar.specs.ClosedForms.{monthOfDay, firstMonth, headOfYear}
+use Rattle.calendar.proofs.EachSystem.{one-a-year}
+use Rattle.calendar.proofs.Reckoned.{reckoned}
+use Rattle.calendar.proofs.EveryCalendar.{month-unique, count-least}
+use Rattle.reckoning.specs.declared.month_spans.MonthSpan.{MonthSpan}
+use Rattle.reckoning.specs.MonthSpans.{monthSpan}
+use Rattle.reckoning.specs.WordBounds.{HeadInRegister, YearInRegister, MonthsInRegister}
+use Rattle.reckoning.specs.Requests.{asRegisterDay, daysIn, headAt, monthsFrom, yearIn}
+use Rattle.reckoning.proofs.RegisterLaws.{months-in-register, first-head, next-head, register-rises, register-length-most}
+
+-- A year begins with the month of its head.
+pub month-of-head : (c : Constants) → Consistent c → (n : ℕ) → monthOfDay c (headOfYear c n) ≡ firstMonth c n
+month-of-head c ok n =
+    let K = reckoned c ok in
+    let k = firstMonth c n in
+    sym (month-unique K k (headOfYear c n) (omega arith) (omega (arith, K .month-least k)))
+
+-- The head's count day is told from its register day.
+pub count-day : {c : Constants} {n : ℕ} {r : RegisterDay} → HeadInRegister c n → r ≡ asRegisterDay (registerDay c (headOfYear c n))
+    → r .0 + c .anchor ≡ headOfYear c n
+count-day {c} {n} {r} h e = omega (arith, ap (λ x. x .0) e, h .head)
+
+-- A year later the years elapsed are one more.
+pub year-after : {c : Constants} (year : ℕ) → YearInRegister c (yearsElapsed c year) → yearsElapsed c (year + 1) ≡ yearsElapsed c year + 1
+year-after {c} year y = one-a-year c (y .constants-fit .consistent) year
+
+-- A year within the register has such a head, and so has the year after.
+module _ {c : Constants} {n : ℕ} (y : YearInRegister c n) where
+  pub head-of : HeadInRegister c n
+  head-of = record { constants-fit = y .constants-fit; elapsed = omega (arith, y .elapsed); head = first-head c n y }
+
+  pub head-after : HeadInRegister c (n + 1)
+  head-after = record { constants-fit = y .constants-fit; elapsed = y .elapsed; head = next-head c n y }
+
+  -- its days are those from the one to the other
+  module _ {head next : RegisterDay} (from : head ≡ asRegisterDay (registerDay c (headOfYear c n)))
+      (to : next ≡ asRegisterDay (registerDay c (headOfYear c (n + 1)))) where
+    from-is : head .0 ≡ registerDay c (headOfYear c n)
+    from-is = ap (λ d. d .0) from
+
+    to-is : next .0 ≡ registerDay c (headOfYear c (n + 1))
+    to-is = ap (λ d. d .0) to
+
+    pub days-between : (head .0 ≤ next .0) × (next .0 - head .0 ≤ 384)
+    days-between =
+        subst₂ (λ a b. (a ≤ b) × (b - a ≤ 384)) (sym from-is) (sym to-is) (register-rises c n y, register-length-most c n y)
+
+    pub days-of : record { refusal = 0; head = head; length = next .0 - head .0 } ≡ daysIn c n
+    days-of =
+        let length = ap₂ (λ a b. b - a) from-is to-is in
+        λ j. record { refusal = 0; head = from j; length = length j }
+
+  -- and its months too
+  module _ {first next : MonthSpan} (from : first ≡ monthSpan c (firstMonth c n)) (to : next ≡ monthSpan c (firstMonth c (n + 1))) where
+    first-is : first .month ≡ firstMonth c n
+    first-is = ap (λ m. m .month) from
+
+    next-is : next .month ≡ firstMonth c (n + 1)
+    next-is = ap (λ m. m .month) to
+
+    pub months-rise : first .month ≤ next .month
+    months-rise = omega (arith, first-is, next-is, count-least (reckoned c (y .constants-fit .consistent)) n)
+
+    pub months-listed : {closing : RegisterDay} → closing ≡ asRegisterDay (registerDay c (next .head))
+        → (first ≡ monthSpan c (first .month))
+        × (closing ≡ headAt c (first .month) (next .month - first .month))
+        × MonthsInRegister c (first .month) (next .month - first .month)
+    months-listed e =
+        let there : next .month ≡ first .month + (next .month - first .month) = omega (arith, months-rise) in
+        let closing = ap (λ m. asRegisterDay (registerDay c (m .head))) to ∙ ap (λ k. asRegisterDay (registerDay c (monthHead c k))) (sym next-is ∙ there) in (
+          from ∙ ap (monthSpan c) (sym first-is),
+          e ∙ closing,
+          subst₂ (λ f m. MonthsInRegister c f (m - f)) (sym first-is) (sym next-is) (months-in-register c n y),
+        )
+
+    pub months-of : monthsFrom c (first .month) (next .month - first .month) ≡ yearIn c n
+    months-of = ap₂ (λ f m. monthsFrom c f (m - f)) first-is next-is

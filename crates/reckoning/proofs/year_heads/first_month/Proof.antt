@@ -1,0 +1,73 @@
+use mathlib.Core.Path.{_≡_, ap, _∙_}
+use Rattle.calendar.specs.Systems.{yearsElapsed}
+use Rattle.calendar.specs.ClosedForms.{monthOfDay, firstMonth}
+use Rattle.printed_heads.specs.PrintedHeads.{headIn}
+use Rattle.printed_heads.proofs.PageAnswers.{found-is-head}
+use Rattle.reckoning.specs.MonthSpans.{monthSpan}
+use Rattle.reckoning.proofs.HeadLaws.{month-of-head, count-day}
+use borrow.Author.Needs.{needs}
+use Rattle.reckoning.proofs.year_heads.first_month.Statement.{statement}
+use Rattle.reckoning.proofs.year_heads.first_month.Tie as tie
+
+-- The places that the answers go back to, each from the one after it.
+abbrev asked : tie.After-known-told → tie.After-of-year
+asked c = c .before .before .before
+
+abbrev found : tie.After-of-day → tie.After-known-told
+found c = c .before .before .before
+
+-- The head that is printed.
+head-found : (c : tie.After-known-told) → c .before .printed .given .0 .0 ≡ headIn (asked c .before .args .c) (yearsElapsed (asked c .before .args .c) (asked c .before .args .year))
+head-found c = found-is-head _ _ (asked c .before .pre .0) (asked c .of-year .ensures) (c .before .printed .given .1)
+
+of-year-requires : tie.Need-of-year-requires
+of-year-requires c κs = search needs
+
+enum-known-printed : tie.Need-enum-known-printed
+enum-known-printed c = search needs
+
+cast-of-day : tie.Need-cast-of-day
+cast-of-day c = search needs
+
+add-of-day : tie.Need-add-of-day
+add-of-day c = search needs
+
+of-day-requires : tie.Need-of-day-requires
+of-day-requires c κs = search needs
+
+enum-told : tie.Need-enum-told
+enum-told c = search needs
+
+years-elapsed-requires : tie.Need-years-elapsed-requires
+years-elapsed-requires c κs = search needs
+
+first-of-year-requires : tie.Need-first-of-year-requires
+first-of-year-requires c κs = search needs
+
+returns : tie.Need-returns
+returns c =
+    let start = asked (found c) .before in
+    let k = start .args .c in
+    let n = yearsElapsed k (start .args .year) in
+    let day = ap (monthOfDay k) (count-day (start .pre .1) (head-found (found c))) in
+    c .of-day .ensures ∙ ap (monthSpan k) (day ∙ month-of-head k (start .pre .1 .constants-fit .consistent) n)
+
+returns-2 : tie.Need-returns-2
+returns-2 c =
+    let k = c .before .before .before .before .before .args .c in
+    c .first-of-year .ensures ∙ ap (λ n. monthSpan k (firstMonth k n)) (c .before .years-elapsed .ensures)
+
+pub first-month-spec : {M : Type 1} → statement M
+first-month-spec =
+    tie.close
+    (tie.spec
+    of-year-requires
+    enum-known-printed
+    cast-of-day
+    add-of-day
+    of-day-requires
+    enum-told
+    years-elapsed-requires
+    first-of-year-requires
+    returns
+    returns-2)

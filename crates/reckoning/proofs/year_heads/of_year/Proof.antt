@@ -1,0 +1,48 @@
+use mathlib.Core.Path.{subst, sym, ap, _∙_}
+use Rattle.calendar.specs.Systems.{registerDay}
+use Rattle.calendar.specs.ClosedForms.{headOfYear}
+use Rattle.printed_heads.proofs.PageAnswers.{found-is-head}
+use Rattle.reckoning.specs.WordBounds.{HeadInRegister}
+use Rattle.reckoning.specs.Requests.{asRegisterDay}
+use borrow.Author.Needs.{needs}
+use Rattle.reckoning.proofs.year_heads.of_year.Statement.{statement}
+use Rattle.reckoning.proofs.year_heads.of_year.Tie as tie
+
+of-year-requires : tie.Need-of-year-requires
+of-year-requires c κs = search needs
+
+enum-known-printed : tie.Need-enum-known-printed
+enum-known-printed c = search needs
+
+enum-told : tie.Need-enum-told
+enum-told c = search needs
+
+years-elapsed-requires : tie.Need-years-elapsed-requires
+years-elapsed-requires c κs = search needs
+
+reckoned-requires : tie.Need-reckoned-requires
+reckoned-requires c κs =
+    let start = c .before .before .before .before in
+    subst (HeadInRegister (start .args .c)) (sym (c .years-elapsed .ensures)) (start .pre .1)
+
+returns : tie.Need-returns
+returns c =
+    let asked = c .before .before .before in
+    found-is-head _ _ (asked .before .pre .0) (asked .of-year .ensures) (c .before .printed .given .1)
+
+returns-2 : tie.Need-returns-2
+returns-2 c =
+    let k = c .before .before .before .before .before .args .c in
+    c .reckoned .ensures ∙ ap (λ n. asRegisterDay (registerDay k (headOfYear k n))) (c .before .years-elapsed .ensures)
+
+pub of-year-spec : {M : Type 1} → statement M
+of-year-spec =
+    tie.close
+    (tie.spec
+    of-year-requires
+    enum-known-printed
+    enum-told
+    years-elapsed-requires
+    reckoned-requires
+    returns
+    returns-2)

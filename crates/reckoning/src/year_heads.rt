@@ -1,0 +1,47 @@
+// The heads of years: from the printed page, or reckoned.
+ghost use mathlib.Core.Path.{_≡_};
+ghost use Rattle.calendar.specs.Systems.{constantsOf, yearsElapsed, registerDay};
+ghost use Rattle.calendar.specs.ClosedForms.{firstMonth, headOfYear};
+ghost use Rattle.reckoning.specs.MonthSpans.{monthSpan};
+ghost use Rattle.reckoning.specs.WordBounds.{HeadInRegister};
+use crate::closed_forms::register_day;
+use crate::closed_forms::years_elapsed;
+use crate::month_spans::MonthSpan;
+use crate::month_spans::first_of_year;
+use crate::month_spans::of_day;
+use calendar::data::Constants;
+use calendar::data::RegisterDay;
+use printed_heads::Printed;
+
+// The register day of the head of year n, reckoned.
+pub(crate) fn reckoned(c: Constants, n: u64) -> RegisterDay
+    requires { ⌜ HeadInRegister c n ⌝ }
+    ensures { λ r. ⌜ r ≡ record { 0 = registerDay c (headOfYear c n) } ⌝ }
+{
+    let first = first_of_year(c, n);
+    register_day(c, first.head)
+}
+
+// The register day of a year's head, as it is printed or else reckoned.
+pub(crate) fn of_year(system: u32, c: Constants, year: u32) -> RegisterDay
+    requires { ⌜ (c ≡ constantsOf system) × HeadInRegister c (yearsElapsed c year) ⌝ }
+    ensures { λ r. ⌜ r ≡ record { 0 = registerDay c (headOfYear c (yearsElapsed c year)) } ⌝ }
+{
+    let printed = printed_heads::of_year(system, year);
+    match printed {
+        Printed::Head(head) => head,
+        Printed::Unprinted => reckoned(c, years_elapsed(c, year)),
+    }
+}
+
+// The month that a year begins with: that of its printed head, or else of its solstice.
+pub(crate) fn first_month(system: u32, c: Constants, year: u32) -> MonthSpan
+    requires { ⌜ (c ≡ constantsOf system) × HeadInRegister c (yearsElapsed c year) ⌝ }
+    ensures { λ r. ⌜ r ≡ monthSpan c (firstMonth c (yearsElapsed c year)) ⌝ }
+{
+    let printed = printed_heads::of_year(system, year);
+    match printed {
+        Printed::Head(head) => of_day(c, head.0 as u64 + c.anchor),
+        Printed::Unprinted => first_of_year(c, years_elapsed(c, year)),
+    }
+}
