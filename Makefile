@@ -19,11 +19,11 @@ programs = build/chiselbrow build/almanac
 # The toolchain's own C code, beside rt: what the programs call of the system.
 system := $(dir $(shell readlink -f "$$(command -v rt)"))../lib/libos_c.a
 test_tools = build/independent build/store_check build/null_check build/builders build/incident build/feed build/faults.so
-bench_tools = build/bench build/c_program build/c_compare build/c_pentads
+bench_tools = build/bench build/bench_heads build/c_program build/c_compare build/c_pentads
 # The longest first, so that two at a time end together.
 tests = tests/mixups.sh tests/program.sh tests/every_day.sh tests/every_year.sh tests/pipes.sh tests/damaged.sh \
         tests/every_comparison.sh tests/every_pentad.sh tests/faults.sh tests/cases.sh tests/descriptors.sh tests/arguments.sh \
-        tests/manual.sh tests/install.sh tests/shared.sh tests/shared.py tests/header.sh tests/host.sh \
+        tests/manual.sh tests/install.sh tests/shared.sh tests/shared.py tests/header.sh tests/host.sh tests/printed_heads.sh \
         build/null_check build/builders build/incident
 crates := crates.txt $(shell find crates -name must-fail -prune -o -type f -print)
 
@@ -32,7 +32,7 @@ crates := crates.txt $(shell find crates -name must-fail -prune -o -type f -prin
 # So that nothing is printed after the gate's last line.
 MAKEFLAGS += --no-print-directory
 
-.PHONY: all test-tools test bench sky run install clean
+.PHONY: all test-tools test bench sky run install fmt clean
 
 # The programs, the library as an archive and shared, and the example host. What they stand on comes first: it is proved
 # on all cores at once, and an archive's own crate by itself.
@@ -80,6 +80,13 @@ install: all
 	    echo '.so man3/chiselbrow.3' > $(root)/share/man/man3/$$function.3 || exit 1; \
 	done
 	sed 's|@PREFIX@|$(PREFIX)|; s|@VERSION@|$(version)|' chiselbrow.pc.in > $(root)/lib/pkgconfig/chiselbrow.pc
+
+# Everything in the prover's layout but for the printed page, which it would lay one number to a line.
+page = crates/printed_heads/src/page.rt
+fmt: | build
+	@cp $(page) build/page.rt
+	@rt fmt
+	@mv build/page.rt $(page)
 
 # Everything that was made.
 clean:
@@ -132,8 +139,24 @@ build/feed: tests/feed.c | build
 build/faults.so: tests/faults.c | build
 	$(CC) $(CFLAGS) -fPIC -shared -o $@ $<
 
-build/bench: bench/bench.c bench/records.c bench/c_store.c $(wildcard bench/*.h) include/chiselbrow.h $(library)
-	$(CC) $(CFLAGS) -Iinclude -o $@ $(filter %.c,$^) $(library)
+build/bench: bench/bench.c bench/timing.c bench/records.c bench/c_store.c $(wildcard bench/*.h) include/chiselbrow.h \
+             $(library) build/from_page.a
+	$(CC) $(CFLAGS) -Iinclude -o $@ $(filter %.c,$^) $(filter %.a,$^)
+
+build/bench_heads: bench/bench_heads.c bench/timing.c bench/records.c bench/c_store.c bench/c_heads.c \
+                   $(wildcard bench/*.h) build/libbench_heads.a
+	$(CC) $(CFLAGS) -o $@ $(filter %.c,$^) $(filter %.a,$^)
+
+# The storing step with the heads that ordinals are counted from taken from the printed page, to be measured: one word
+# changed in a copy, which is proved as well. Its function is renamed, so that both can be linked.
+build/from_page.a: $(crates) | build
+	@echo "proving the storing step from the page (what the prover says: build/from_page.log)"
+	@rm -rf build/from_page && mkdir build/from_page && cp -R crates crates.txt build/from_page
+	@sed -i 's/reckoned_days/days/' build/from_page/crates/citation/src/judge.rt
+	@sed -i 's/reckoned-days/days/g' build/from_page/crates/citation/proofs/judge/named_by_ordinal/Proof.antt
+	@cd build/from_page && rt staticlib citation < /dev/null > ../from_page.log 2>&1 || { cat ../from_page.log >&2; exit 1; }
+	@objcopy --redefine-sym chiselbrow_store=store_from_page build/from_page/target/staticlib/libcitation.a $@
+	@rm -r build/from_page
 
 build/c_program: bench/c_program.c bench/c_store.c $(wildcard bench/*.h) | build
 	$(CC) $(CFLAGS) -o $@ $(filter %.c,$^)

@@ -1,8 +1,8 @@
-/* Measures chiselbrow_store against c_store, after checking that they agree.
+/* Measures chiselbrow_store against c_store, after checking that they agree;
+ * and against itself with the heads that ordinals are counted from taken from
+ * the printed page.
  *
  *     bench [SEED] */
-
-#define _POSIX_C_SOURCE 200809L
 
 #include <inttypes.h>
 #include <stdio.h>
@@ -13,15 +13,18 @@
 #include "c_store.h"
 #include "chiselbrow.h"
 #include "records.h"
+#include "timing.h"
+
+/* The storing step so changed, and called so. */
+uint64_t store_from_page(const uint8_t *input, size_t input_len,
+                         uint8_t *output, size_t output_len);
 
 enum {
     RECORDS = 100000,       /* too many for branches to be learnt by heart */
-    BATCHES = 6,
-    ROUNDS = 15,
+    BATCHES = 7,
+    PRINTED = 3,            /* the batch of records in printed years */
     OUTPUT_ROOM = 16
 };
-
-static const double shortest_round = 0.020;    /* seconds */
 
 /* Of a hundred records so many are refused. */
 static size_t make_mixed(struct random *random, uint32_t refused,
@@ -42,6 +45,7 @@ static const struct {
     {"kind 1", make_accepted, 1},
     {"kind 2", make_accepted, 2},
     {"kind 3", make_accepted, 3},
+    {"kind 3 printed", make_printed, 3},
     {"kind 4", make_accepted, 4},
     {"mixed", make_mixed, 5},
     {"refused 10", make_refused_by, 10}
@@ -81,37 +85,43 @@ static void print_bytes(const char *what, const uint8_t *bytes, size_t count)
     fprintf(stderr, "\n");
 }
 
-static void check_record(const char *name, const uint8_t *record,
-                         size_t length, size_t output_len)
+typedef uint64_t storing_step(const uint8_t *input, size_t input_len,
+                              uint8_t *output, size_t output_len);
+
+static void check_record(const char *name, storing_step *store,
+                         const uint8_t *record, size_t length,
+                         size_t output_len)
 {
     uint8_t theirs[OUTPUT_ROOM], ours[OUTPUT_ROOM];
 
     memset(theirs, 0xA5, sizeof theirs);
     memset(ours, 0xA5, sizeof ours);
-    uint64_t answer = chiselbrow_store(record, length, theirs, output_len);
+    uint64_t answer = store(record, length, theirs, output_len);
     uint64_t expected = c_store(record, length, ours, output_len);
     if (answer == expected && memcmp(theirs, ours, sizeof ours) == 0)
         return;
 
-    fprintf(stderr, "bench: %s: the two storing steps differ\n", name);
+    fprintf(stderr, "bench: %s: %s and C differ\n", name,
+            store == chiselbrow_store ? "chiselbrow" : "the page");
     print_bytes("record", record, length);
     fprintf(stderr, "  output length: %zu\n", output_len);
-    fprintf(stderr, "  chiselbrow: %016" PRIX64 "\n", answer);
-    fprintf(stderr, "  C:          %016" PRIX64 "\n", expected);
-    print_bytes("chiselbrow", theirs, sizeof theirs);
-    print_bytes("C         ", ours, sizeof ours);
+    fprintf(stderr, "  answer: %016" PRIX64 "\n", answer);
+    fprintf(stderr, "  C:      %016" PRIX64 "\n", expected);
+    print_bytes("stored", theirs, sizeof theirs);
+    print_bytes("C     ", ours, sizeof ours);
     exit(1);
 }
 
-static void check_batch(const struct batch *batch)
+static void check_batch(const struct batch *batch, storing_step *store)
 {
     const uint8_t *record = batch->bytes;
 
     for (size_t i = 0; i < RECORDS; i++) {
-        check_record(batch->name, record, batch->lengths[i], OUTPUT_ROOM);
-        check_record(batch->name, record, batch->lengths[i], 10);
-        check_record(batch->name, record, batch->lengths[i], 9);
-        record += batch->lengths[i];
+        size_t length = batch->lengths[i];
+        check_record(batch->name, store, record, length, OUTPUT_ROOM);
+        check_record(batch->name, store, record, length, 10);
+        check_record(batch->name, store, record, length, 9);
+        record += length;
     }
 }
 
@@ -122,8 +132,9 @@ static volatile uint64_t sink;
 
 /* One loop for each storing step, so that both are called by their symbol. */
 #define DEFINE_PASS(pass, store)                                        \
-    static void pass(const struct batch *batch)                         \
+    static void pass(const void *records)                               \
     {                                                                   \
+        const struct batch *batch = records;                            \
         uint8_t output[OUTPUT_ROOM] = {0};                              \
         const uint8_t *record = batch->bytes;                           \
         uint64_t sum = 0;                                               \
@@ -139,57 +150,25 @@ static volatile uint64_t sink;
 
 DEFINE_PASS(pass_chiselbrow, chiselbrow_store)
 DEFINE_PASS(pass_c, c_store)
-
-static double now(void)
-{
-    struct timespec instant;
-
-    clock_gettime(CLOCK_MONOTONIC, &instant);
-    return (double)instant.tv_sec + (double)instant.tv_nsec * 1e-9;
-}
-
-static double seconds(void (*pass)(const struct batch *),
-                      const struct batch *batch, unsigned passes)
-{
-    double start = now();
-
-    for (unsigned i = 0; i < passes; i++)
-        pass(batch);
-    return now() - start;
-}
+DEFINE_PASS(pass_from_page, store_from_page)
 
 static void measure(const struct batch *batch)
 {
-    double best_chiselbrow = 0, best_c = 0;
-    unsigned passes = 1, round = 0;
+    struct way chiselbrow = {"chiselbrow", pass_chiselbrow};
+    struct way c = {"C", pass_c};
+    char job[32];
 
-    while (round < ROUNDS) {
-        double chiselbrow = 0, c;
+    snprintf(job, sizeof job, "store %s", batch->name);
+    compare_ways(job, chiselbrow, c, batch, RECORDS);
+}
 
-        /* Each goes first in every other round. */
-        if (round % 2 == 0)
-            chiselbrow = seconds(pass_chiselbrow, batch, passes);
-        c = seconds(pass_c, batch, passes);
-        if (round % 2 != 0)
-            chiselbrow = seconds(pass_chiselbrow, batch, passes);
+static void measure_page(const struct batch *batch)
+{
+    struct way from_page = {"from page", pass_from_page};
+    struct way reckoned = {"reckoned", pass_chiselbrow};
 
-        if (chiselbrow < shortest_round || c < shortest_round) {
-            passes *= 2;
-            round = 0;
-            continue;
-        }
-        if (round == 0 || chiselbrow < best_chiselbrow)
-            best_chiselbrow = chiselbrow;
-        if (round == 0 || c < best_c)
-            best_c = c;
-        round++;
-    }
-
-    double to_ns = 1e9 / ((double)passes * RECORDS);
-    printf("store %s: chiselbrow %.1f ns, C %.1f ns, ratio %.2f\n",
-           batch->name, best_chiselbrow * to_ns, best_c * to_ns,
-           best_chiselbrow / best_c);
-    fflush(stdout);
+    compare_ways("store kind 3 from page", from_page, reckoned,
+                 batch, RECORDS);
 }
 
 int main(int argc, char **argv)
@@ -205,9 +184,12 @@ int main(int argc, char **argv)
     printf("seed %" PRIu64 "\n", random.state);
 
     fill_batches(&random);
-    for (size_t i = 0; i < BATCHES; i++)
-        check_batch(&batches[i]);
+    for (size_t i = 0; i < BATCHES; i++) {
+        check_batch(&batches[i], chiselbrow_store);
+        check_batch(&batches[i], store_from_page);
+    }
     for (size_t i = 0; i < BATCHES; i++)
         measure(&batches[i]);
+    measure_page(&batches[PRINTED]);
     return 0;
 }

@@ -67,6 +67,12 @@ INLINE struct month month_of_day(const struct calendar *c, uint64_t day)
     return found;
 }
 
+/* The solstice's day is the year's first middle qi's. */
+INLINE uint64_t head_of_year(const struct calendar *c, uint32_t year)
+{
+    return month_of_day(c, (c->elapsed + year) * c->year / c->day).head;
+}
+
 /* The last middle qi before the end of a month; whether the month is leap,
  * that is, whether that qi fell before its first day. */
 struct last_qi {

@@ -54,12 +54,6 @@ INLINE uint64_t refuse_telling(uint64_t number, uint64_t month)
 
 /* The reckoning. */
 
-/* The solstice's day is the year's first middle qi's. */
-INLINE uint64_t head_of_year(const struct calendar *c, uint32_t year)
-{
-    return month_of_day(c, (c->elapsed + year) * c->year / c->day).head;
-}
-
 /* The number of a year's leap month; 0 if it has none. Up to the leap month
  * the months keep step with the year's middle qi, and from it on they are one
  * behind, so that halving finds the last qi in step. */

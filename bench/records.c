@@ -30,7 +30,16 @@ static void put_32(uint8_t *to, uint32_t number)
     put_16(to + 2, number >> 16);
 }
 
-size_t make_accepted(struct random *random, uint32_t kind, uint8_t *record)
+/* Some systems and years, each from the first on. */
+struct span {
+    uint32_t system, systems;
+    uint32_t year, years;
+};
+
+/* Writes an accepted record of the kind for a random day of a span. Returns its
+ * length. */
+static size_t make_within(struct random *random, const struct span *span,
+                          uint32_t kind, uint8_t *record)
 {
     uint8_t by_ordinal[9] = {9, 0, 3, 0};
     uint8_t stored[10];
@@ -38,8 +47,9 @@ size_t make_accepted(struct random *random, uint32_t kind, uint8_t *record)
 
     /* Drawing until the year has the ordinal makes all days alike likely. */
     do {
-        by_ordinal[4] = (uint8_t)(1 + random_below(random, 2));
-        put_16(by_ordinal + 5, 1 + random_below(random, 3000));
+        by_ordinal[4] =
+            (uint8_t)(span->system + random_below(random, span->systems));
+        put_16(by_ordinal + 5, span->year + random_below(random, span->years));
         put_16(by_ordinal + 7, 1 + random_below(random, 384));
         day = c_store(by_ordinal, sizeof by_ordinal, stored, sizeof stored);
     } while (day >> 32 != 0);
@@ -60,6 +70,20 @@ size_t make_accepted(struct random *random, uint32_t kind, uint8_t *record)
         record[9] = (uint8_t)((day + 49) % 60);
     }
     return sizeof stored;
+}
+
+size_t make_accepted(struct random *random, uint32_t kind, uint8_t *record)
+{
+    static const struct span all = {1, 2, 1, 3000};
+
+    return make_within(random, &all, kind, record);
+}
+
+size_t make_printed(struct random *random, uint32_t kind, uint8_t *record)
+{
+    static const struct span printed = {1, 1, 960, 320};
+
+    return make_within(random, &printed, kind, record);
 }
 
 /* Changes one part of an accepted record, so that the refusal may apply.

@@ -23,6 +23,10 @@ uint32_t random_below(struct random *random, uint32_t bound);
  * random day of the years 1 to 3000. Returns its length. */
 size_t make_accepted(struct random *random, uint32_t kind, uint8_t *record);
 
+/* The same for a random day of the Guantian years 960 to 1279, whose heads are
+ * printed. */
+size_t make_printed(struct random *random, uint32_t kind, uint8_t *record);
+
 /* Writes a record that the storing step refuses by the number, 1 to 7 or 10.
  * Returns its length, which may differ from what its length field says. */
 size_t make_refused_by(struct random *random, uint32_t refusal,

@@ -1,14 +1,16 @@
 #!/usr/bin/env bash
 # Runs all measurements on what make has built: nanoseconds a record for the
-# storing step, records a second for the program, nanoseconds a year or a day
-# for the almanac, and at the end the ratios of their times to those of C by
-# themselves.
+# storing step, nanoseconds a head for years' heads, records a second for the
+# program, nanoseconds a year or a day for the almanac, and at the end the ratios
+# of their times to those that stand beside them, which are C's but for what is
+# said to be from the page.
 
 set -euo pipefail
 cd "$(dirname "$0")/.."
 
 {
     build/bench
+    build/bench_heads
     bench/bench_program.sh build/chiselbrow build/c_program
     bench/bench_almanac.sh build/almanac build/c_compare build/c_pentads
 } | awk '

@@ -1,2 +1,2 @@
--- The head of a year.
-pub mod YearHead
+-- The head of a year as a bare number.
+pub mod Heads

@@ -1,17 +1,22 @@
-// A year's head, for the benchmark to call from C: from the printed page, and reckoned.
+// A year's head for the benchmark, which calls it from C: from the printed page, and reckoned.
 ghost use mathlib.Core.Path.{_≡_};
-ghost use Rattle.bench_heads.specs.YearHead.{yearHead};
+ghost use Rattle.bench_heads.specs.Heads.{printed, reckoned};
+use printed_heads::Printed;
 
 #[no_mangle]
 pub extern "C" fn head_from_page(system: u32, year: u32) -> u32
-    ensures { λ r. ⌜ r ≡ yearHead system year ⌝ }
+    ensures { λ r. ⌜ r ≡ printed system year ⌝ }
 {
-    reckoning::days(system, year).head.0
+    let said = printed_heads::of_year(system, year);
+    match said {
+        Printed::Head(head) => head.0,
+        Printed::Unprinted => 0,
+    }
 }
 
 #[no_mangle]
 pub extern "C" fn head_reckoned(system: u32, year: u32) -> u32
-    ensures { λ r. ⌜ r ≡ yearHead system year ⌝ }
+    ensures { λ r. ⌜ r ≡ reckoned system year ⌝ }
 {
     reckoning::reckoned_days(system, year).head.0
 }
