@@ -1,7 +1,7 @@
 -- What is answered from the page.
 use Prim.Native.Nat.{ℕ, _+_, _-_}
 use mathlib.Core.Path.{_≡_, sym, ap, subst, _∙_}
-use mathlib.Core.Bool.{Bool, true, false, true≢false, _&&_}
+use mathlib.Core.Bool.{true, false, true≢false, _&&_}
 use native.Mathlib.Omega.{arith}
 use lib.Dec.{eqb, leb}
 use borrow.Author.Tests.{eqb-true, eq-eqb, leb-true, le-leb}
@@ -13,10 +13,10 @@ use Rattle.calendar.specs.Consistent.{Consistent}
 use Rattle.calendar.specs.ClosedForms.{headOfYear}
 use Rattle.calendar.proofs.Cases.{both, by-bool}
 use Rattle.calendar.proofs.Spans.{span, span-first}
-use Rattle.calendar.proofs.EachSystem.{guantian-consistent}
+use Rattle.calendar.proofs.EachSystem.{guantian-consistent, consistent}
 use Rattle.printed_heads.specs.declared.Printed.{Printed}
 use Rattle.printed_heads.specs.declared.Printed.the-variants.{Head, Unprinted}
-use Rattle.printed_heads.specs.PrintedHeads.{firstYear, lastYear, OnPage, IsHead, Says, onPage, headIn, printedHead}
+use Rattle.printed_heads.specs.PrintedHeads.{firstYear, lastYear, OnPage, IsHead, Says, onPage, registerHead, printedHead}
 
 -- Which years are on the page, by its test.
 pub is-on : (system year : ℕ) → onPage system year ≡ true → OnPage system year
@@ -52,33 +52,12 @@ pub answers : {system year : ℕ} {r : RegisterDay} → OnPage system year
 unfolding printedHead
 answers {system} {year} {r} p h =
     let head = head-is guantian guantian-consistent (yearsElapsed guantian year) (r .0) h in
-    let of-system = ap (λ c. Head (headIn c (yearsElapsed c year))) (sym (of-guantian p)) in
+    let of-system = ap (λ c. Head (registerHead c (yearsElapsed c year))) (sym (of-guantian p)) in
     ap Head (λ j. record { 0 = head j }) ∙ of-system ∙ simp (tested p)
 
 pub is-silent : (system year : ℕ) → onPage system year ≡ false → Unprinted ≡ printedHead system year
 unfolding printedHead
 is-silent system year off = simp off
-
--- What is found on the page is the head of its year.
-pub found-is-head : (system year : ℕ) {c : Constants} {p : Printed} {r : RegisterDay} → c ≡ constantsOf system
-    → p ≡ printedHead system year → p ≡ Head r → r ≡ headIn c (yearsElapsed c year)
-unfolding printedHead
-found-is-head system year {c} {p} {r} e is found =
-    by-bool (onPage system year)
-    (λ on.
-    let there : printedHead system year ≡ Head (headIn (constantsOf system) (yearsElapsed (constantsOf system) year)) = simp on in
-    ap day-of (sym found ∙ is ∙ there) ∙ ap (λ k. headIn k (yearsElapsed k year)) (sym e))
-    (λ off.
-    let none : printedHead system year ≡ Unprinted = simp off in
-    absurd (true≢false (ap is-head (sym found ∙ is ∙ none))))
-  where
-    day-of : Printed → RegisterDay
-    day-of (Head r) = r
-    day-of Unprinted = record { 0 = 0 }
-
-    is-head : Printed → Bool
-    is-head (Head r) = true
-    is-head Unprinted = false
 
 -- In words: no other year's head is on it, and those that are, are right.
 pub says : (system year : ℕ) → Says system year (printedHead system year)
@@ -91,5 +70,16 @@ says system year =
     record { span = span guantian guantian-consistent n; register-day = omega (arith, p .year-inside) }
     in
     let of-system = subst (λ c. IsHead c (yearsElapsed c year) (registerDay guantian (headOfYear guantian n))) (sym (of-guantian p)) head in
-    subst (Says system year) (answers {r = headIn guantian n} p head) (p, of-system))
+    subst (Says system year) (answers {r = registerHead guantian n} p head) (p, of-system))
     (λ off. subst (Says system year) (is-silent system year off) (λ p. true≢false (sym (tested p) ∙ off)))
+
+pub answered : (system year : ℕ) {p : Printed} → p ≡ printedHead system year → (p ≡ printedHead system year) × Says system year p
+answered system year e = (e, subst (Says system year) (sym e) (says system year))
+
+-- What is found on the page is the head of its year.
+pub found-is-head : (system year : ℕ) {c : Constants} {p : Printed} {r : RegisterDay} → c ≡ constantsOf system
+    → Says system year p → p ≡ Head r → r ≡ registerHead c (yearsElapsed c year)
+found-is-head system year {r = r} e said found =
+    let k = constantsOf system in
+    let head = head-is k (consistent system) (yearsElapsed k year) (r .0) (subst (Says system year) found said .1) in
+    (λ j. record { 0 = head j }) ∙ ap (λ k. registerHead k (yearsElapsed k year)) (sym e)

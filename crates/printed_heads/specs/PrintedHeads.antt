@@ -37,10 +37,10 @@ Says system year Unprinted = OnPage system year → ⊥
 abbrev pub onPage : ℕ → ℕ → Bool
 onPage system year = eqb system 1 && (leb firstYear year && leb year lastYear)
 
-abbrev pub headIn : Constants → ℕ → RegisterDay
-headIn c n = record { 0 = registerDay c (headOfYear c n) }
+abbrev pub registerHead : Constants → ℕ → RegisterDay
+registerHead c n = record { 0 = registerDay c (headOfYear c n) }
 
 unfoldable pub printedHead : ℕ → ℕ → Printed
 printedHead system year =
     let c = constantsOf system in
-    cond (onPage system year) (Head (headIn c (yearsElapsed c year))) Unprinted
+    cond (onPage system year) (Head (registerHead c (yearsElapsed c year))) Unprinted

@@ -2,7 +2,7 @@
 ghost use mathlib.Core.Path.{_≡_};
 ghost use Prim.Native.Nat.{_+_, _<_};
 ghost use Rattle.calendar.specs.Systems.{guantian, yearsElapsed};
-ghost use Rattle.printed_heads.specs.PrintedHeads.{firstYear, onPage, IsHead, printedHead};
+ghost use Rattle.printed_heads.specs.PrintedHeads.{firstYear, onPage, IsHead, Says, printedHead};
 use calendar::data::RegisterDay;
 use page::HEADS;
 
@@ -39,7 +39,7 @@ fn on_page(system: u32, year: u32) -> bool
 
 // The head of a year of a system, if it is printed.
 pub fn of_year(system: u32, year: u32) -> Printed
-    ensures { λ r. ⌜ r ≡ printedHead system year ⌝ }
+    ensures { λ r. ⌜ (r ≡ printedHead system year) × Says system year r ⌝ }
 {
     if on_page(system, year) {
         return Printed::Head(entry((year - FIRST) as usize));

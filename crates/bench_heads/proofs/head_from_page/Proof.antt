@@ -14,10 +14,10 @@ enum-told : tie.Need-enum-told
 enum-told c = search needs
 
 returns : tie.Need-returns
-returns c = ap dayOr0 (sym (c .before .said .given .1) ∙ c .before .before .before .of-year .ensures)
+returns c = ap dayOr0 (sym (c .before .said .given .1) ∙ c .before .before .before .of-year .ensures .0)
 
 returns-2 : tie.Need-returns-2
-returns-2 c = ap dayOr0 (sym (c .enum-told .given .1) ∙ c .before .before .of-year .ensures)
+returns-2 c = ap dayOr0 (sym (c .enum-told .given .1) ∙ c .before .before .of-year .ensures .0)
 
 pub head-from-page-spec : {M : Type 1} → statement M
 head-from-page-spec =

@@ -1,7 +1,7 @@
 use mathlib.Core.Path.{_∙_, sym}
 use native.Mathlib.Omega.{arith}
 use Rattle.printed_heads.specs.PrintedHeads.{OnPage}
-use Rattle.printed_heads.proofs.PageAnswers.{is-on, at-year, answers, is-silent}
+use Rattle.printed_heads.proofs.PageAnswers.{is-on, at-year, answers, is-silent, answered}
 use borrow.Author.Needs.{needs}
 use Rattle.printed_heads.proofs.of_year.Statement.{statement}
 use Rattle.printed_heads.proofs.of_year.Tie as tie
@@ -23,10 +23,10 @@ entry-requires : tie.Need-entry-requires
 entry-requires c κs = omega (arith, found c .year-inside)
 
 returns : tie.Need-returns
-returns c = answers (found (c .before)) (at-year (found (c .before)) (c .entry .ensures))
+returns c = answered _ _ (answers (found (c .before)) (at-year (found (c .before)) (c .entry .ensures)))
 
 returns-2 : tie.Need-returns-2
-returns-2 c = is-silent _ _ (sym (c .before .on-page .ensures) ∙ c .if1 .left)
+returns-2 c = answered _ _ (is-silent _ _ (sym (c .before .on-page .ensures) ∙ c .if1 .left))
 
 pub of-year-spec : {M : Type 1} → statement M
 of-year-spec =

@@ -1,7 +1,7 @@
 use mathlib.Core.Path.{_≡_, ap, _∙_}
 use Rattle.calendar.specs.Systems.{yearsElapsed}
 use Rattle.calendar.specs.ClosedForms.{monthOfDay, firstMonth}
-use Rattle.printed_heads.specs.PrintedHeads.{headIn}
+use Rattle.printed_heads.specs.PrintedHeads.{registerHead}
 use Rattle.printed_heads.proofs.PageAnswers.{found-is-head}
 use Rattle.reckoning.specs.MonthSpans.{monthSpan}
 use Rattle.reckoning.proofs.HeadLaws.{month-of-head, count-day}
@@ -17,8 +17,8 @@ abbrev found : tie.After-of-day → tie.After-known-told
 found c = c .before .before .before
 
 -- The head that is printed.
-head-found : (c : tie.After-known-told) → c .before .printed .given .0 .0 ≡ headIn (asked c .before .args .c) (yearsElapsed (asked c .before .args .c) (asked c .before .args .year))
-head-found c = found-is-head _ _ (asked c .before .pre .0) (asked c .of-year .ensures) (c .before .printed .given .1)
+head-found : (c : tie.After-known-told) → c .before .printed .given .0 .0 ≡ registerHead (asked c .before .args .c) (yearsElapsed (asked c .before .args .c) (asked c .before .args .year))
+head-found c = found-is-head _ _ (asked c .before .pre .0) (asked c .of-year .ensures .1) (c .before .printed .given .1)
 
 of-year-requires : tie.Need-of-year-requires
 of-year-requires c κs = search needs

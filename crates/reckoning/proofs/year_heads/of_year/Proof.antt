@@ -28,7 +28,7 @@ reckoned-requires c κs =
 returns : tie.Need-returns
 returns c =
     let asked = c .before .before .before in
-    found-is-head _ _ (asked .before .pre .0) (asked .of-year .ensures) (c .before .printed .given .1)
+    found-is-head _ _ (asked .before .pre .0) (asked .of-year .ensures .1) (c .before .printed .given .1)
 
 returns-2 : tie.Need-returns-2
 returns-2 c =
