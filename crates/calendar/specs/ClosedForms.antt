@@ -3,6 +3,8 @@ use Prim.Native.Nat.{ℕ, _+_, _*_, _-_, _/_, _%_}
 use mathlib.Core.Bool.{Bool}
 use lib.Dec.{ltb}
 use Rattle.calendar.specs.declared.data.Constants.{Constants}
+use Rattle.calendar.specs.declared.data.RegisterDay.{RegisterDay}
+use Rattle.calendar.specs.Systems.{registerDay}
 use Rattle.calendar.specs.Month.{monthHead, numberOf}
 
 -- The month that has day d: the last whose head is d or earlier. With lunar parts, k M / D ≤ d just when
@@ -46,6 +48,10 @@ firstMonth c n = monthOfQi c (12 * n)
 -- The first day of year n.
 abbrev pub headOfYear : Constants → ℕ → ℕ
 headOfYear c n = monthHead c (firstMonth c n)
+
+-- Its register day.
+abbrev pub registerHead : Constants → ℕ → RegisterDay
+registerHead c n = record { 0 = registerDay c (headOfYear c n) }
 
 -- The year that month k is in.
 abbrev pub yearOfMonth : Constants → ℕ → ℕ

@@ -10,13 +10,13 @@ use Rattle.calendar.specs.declared.data.RegisterDay.{RegisterDay}
 use Rattle.calendar.specs.Systems.{guantian, constantsOf, yearsElapsed, registerDay}
 use Rattle.calendar.specs.Month.{monthHead}
 use Rattle.calendar.specs.Consistent.{Consistent}
-use Rattle.calendar.specs.ClosedForms.{headOfYear}
+use Rattle.calendar.specs.ClosedForms.{headOfYear, registerHead}
 use Rattle.calendar.proofs.Cases.{both, by-bool}
 use Rattle.calendar.proofs.Spans.{span, span-first}
 use Rattle.calendar.proofs.EachSystem.{guantian-consistent, consistent}
 use Rattle.printed_heads.specs.declared.Printed.{Printed}
 use Rattle.printed_heads.specs.declared.Printed.the-variants.{Head, Unprinted}
-use Rattle.printed_heads.specs.PrintedHeads.{firstYear, lastYear, OnPage, IsHead, Says, onPage, registerHead, printedHead}
+use Rattle.printed_heads.specs.PrintedHeads.{firstYear, lastYear, OnPage, IsHead, Says, onPage, printedHead}
 
 -- Which years are on the page, by its test.
 pub is-on : (system year : ℕ) → onPage system year ≡ true → OnPage system year

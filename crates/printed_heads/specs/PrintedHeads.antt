@@ -4,11 +4,10 @@ use mathlib.Core.Path.{_≡_}
 use mathlib.Core.Bool.{Bool, cond, _&&_}
 use lib.Dec.{eqb, leb}
 use Rattle.calendar.specs.declared.data.Constants.{Constants}
-use Rattle.calendar.specs.declared.data.RegisterDay.{RegisterDay}
 use Rattle.calendar.specs.Inside.{Inside}
-use Rattle.calendar.specs.Systems.{constantsOf, yearsElapsed, registerDay, IsRegisterDay}
+use Rattle.calendar.specs.Systems.{constantsOf, yearsElapsed, IsRegisterDay}
 use Rattle.calendar.specs.Year.{Span, yearHead}
-use Rattle.calendar.specs.ClosedForms.{headOfYear}
+use Rattle.calendar.specs.ClosedForms.{registerHead}
 use Rattle.printed_heads.specs.declared.Printed.{Printed}
 use Rattle.printed_heads.specs.declared.Printed.the-variants.{Head, Unprinted}
 
@@ -36,9 +35,6 @@ Says system year Unprinted = OnPage system year → ⊥
 -- The same as an equation.
 abbrev pub onPage : ℕ → ℕ → Bool
 onPage system year = eqb system 1 && (leb firstYear year && leb year lastYear)
-
-abbrev pub registerHead : Constants → ℕ → RegisterDay
-registerHead c n = record { 0 = registerDay c (headOfYear c n) }
 
 unfoldable pub printedHead : ℕ → ℕ → Printed
 printedHead system year =

@@ -7,7 +7,7 @@ use Rattle.calendar.specs.declared.data.RegisterDay.{RegisterDay}
 use Rattle.calendar.specs.Systems.{yearsElapsed, registerDay}
 use Rattle.calendar.specs.Month.{monthHead}
 use Rattle.calendar.specs.Consistent.{Consistent}
-use Rattle.calendar.specs.ClosedForms.{monthOfDay, firstMonth, headOfYear}
+use Rattle.calendar.specs.ClosedForms.{monthOfDay, firstMonth, headOfYear, registerHead}
 use Rattle.calendar.proofs.EachSystem.{one-a-year}
 use Rattle.calendar.proofs.Reckoned.{reckoned}
 use Rattle.calendar.proofs.EveryCalendar.{month-unique, count-least}
@@ -25,13 +25,9 @@ month-of-head c ok n =
     sym (month-unique K k (headOfYear c n) (omega arith) (omega (arith, K .month-least k)))
 
 -- The head's count day is told from its register day.
-pub count-day : {c : Constants} {n : ℕ} {r : RegisterDay} → HeadInRegister c n → r ≡ asRegisterDay (registerDay c (headOfYear c n))
+pub count-day : {c : Constants} {n : ℕ} {r : RegisterDay} → HeadInRegister c n → r ≡ registerHead c n
     → r .0 + c .anchor ≡ headOfYear c n
 count-day {c} {n} {r} h e = omega (arith, ap (λ x. x .0) e, h .head)
-
--- A year later the years elapsed are one more.
-pub year-after : {c : Constants} (year : ℕ) → YearInRegister c (yearsElapsed c year) → yearsElapsed c (year + 1) ≡ yearsElapsed c year + 1
-year-after {c} year y = one-a-year c (y .constants-fit .consistent) year
 
 -- A year within the register has such a head, and so has the year after.
 module _ {c : Constants} {n : ℕ} (y : YearInRegister c n) where
@@ -42,8 +38,8 @@ module _ {c : Constants} {n : ℕ} (y : YearInRegister c n) where
   head-after = record { constants-fit = y .constants-fit; elapsed = y .elapsed; head = next-head c n y }
 
   -- its days are those from the one to the other
-  module _ {head next : RegisterDay} (from : head ≡ asRegisterDay (registerDay c (headOfYear c n)))
-      (to : next ≡ asRegisterDay (registerDay c (headOfYear c (n + 1)))) where
+  module _ {head next : RegisterDay} (from : head ≡ registerHead c n)
+      (to : next ≡ registerHead c (n + 1)) where
     from-is : head .0 ≡ registerDay c (headOfYear c n)
     from-is = ap (λ d. d .0) from
 
@@ -84,3 +80,14 @@ module _ {c : Constants} {n : ℕ} (y : YearInRegister c n) where
 
     pub months-of : monthsFrom c (first .month) (next .month - first .month) ≡ yearIn c n
     months-of = ap₂ (λ f m. monthsFrom c f (m - f)) first-is next-is
+
+-- What is asked of the common year after a year within the register.
+module _ {c : Constants} (year : ℕ) (y : YearInRegister c (yearsElapsed c year)) where
+  one-more : yearsElapsed c (year + 1) ≡ yearsElapsed c year + 1
+  one-more = one-a-year c (y .constants-fit .consistent) year
+
+  pub head-of-next : HeadInRegister c (yearsElapsed c (year + 1))
+  head-of-next = subst (HeadInRegister c) (sym one-more) (head-after y)
+
+  pub told-of-next : {A : Type 0} (f : ℕ → A) {v : A} → v ≡ f (yearsElapsed c (year + 1)) → v ≡ f (yearsElapsed c year + 1)
+  told-of-next f e = e ∙ ap f one-more

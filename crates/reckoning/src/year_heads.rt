@@ -1,7 +1,7 @@
 // The heads of years: from the printed page, or reckoned.
 ghost use mathlib.Core.Path.{_≡_};
-ghost use Rattle.calendar.specs.Systems.{constantsOf, yearsElapsed, registerDay};
-ghost use Rattle.calendar.specs.ClosedForms.{firstMonth, headOfYear};
+ghost use Rattle.calendar.specs.Systems.{constantsOf, yearsElapsed};
+ghost use Rattle.calendar.specs.ClosedForms.{firstMonth, registerHead};
 ghost use Rattle.reckoning.specs.MonthSpans.{monthSpan};
 ghost use Rattle.reckoning.specs.WordBounds.{HeadInRegister};
 use crate::closed_forms::register_day;
@@ -16,7 +16,7 @@ use printed_heads::Printed;
 // The register day of the head of year n, reckoned.
 pub(crate) fn reckoned(c: Constants, n: u64) -> RegisterDay
     requires { ⌜ HeadInRegister c n ⌝ }
-    ensures { λ r. ⌜ r ≡ record { 0 = registerDay c (headOfYear c n) } ⌝ }
+    ensures { λ r. ⌜ r ≡ registerHead c n ⌝ }
 {
     let first = first_of_year(c, n);
     register_day(c, first.head)
@@ -25,7 +25,7 @@ pub(crate) fn reckoned(c: Constants, n: u64) -> RegisterDay
 // The register day of a year's head, as it is printed or else reckoned.
 pub(crate) fn of_year(system: u32, c: Constants, year: u32) -> RegisterDay
     requires { ⌜ (c ≡ constantsOf system) × HeadInRegister c (yearsElapsed c year) ⌝ }
-    ensures { λ r. ⌜ r ≡ record { 0 = registerDay c (headOfYear c (yearsElapsed c year)) } ⌝ }
+    ensures { λ r. ⌜ r ≡ registerHead c (yearsElapsed c year) ⌝ }
 {
     let printed = printed_heads::of_year(system, year);
     match printed {

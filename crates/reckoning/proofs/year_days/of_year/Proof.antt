@@ -1,23 +1,19 @@
-use mathlib.Core.Path.{_≡_, subst, sym, ap, _∙_}
+use mathlib.Core.Path.{_≡_, _∙_}
 use Prim.Native.Nat.{_+_}
-use Rattle.calendar.specs.Systems.{yearsElapsed, registerDay}
-use Rattle.calendar.specs.ClosedForms.{headOfYear}
-use Rattle.reckoning.specs.WordBounds.{HeadInRegister}
-use Rattle.reckoning.specs.Requests.{asRegisterDay}
-use Rattle.reckoning.proofs.HeadLaws.{year-after, head-of, head-after, days-between, days-of}
+use Rattle.calendar.specs.Systems.{yearsElapsed}
+use Rattle.calendar.specs.ClosedForms.{registerHead}
+use Rattle.reckoning.proofs.HeadLaws.{head-of, head-of-next, told-of-next, days-between, days-of}
 use borrow.Author.Needs.{needs}
 use Rattle.reckoning.proofs.year_days.of_year.Statement.{statement}
 use Rattle.reckoning.proofs.year_days.of_year.Tie as tie
 
--- The next year's head is reckoned here, and what the next year's is.
+-- Both years' heads are found here.
 abbrev start : tie.After-of-year2 → tie.Start
 start c = c .before .before
 
 next-is : (c : tie.After-of-year2)
-    → c .of-year2 .result ≡ asRegisterDay (registerDay (start c .args .c) (headOfYear (start c .args .c) (yearsElapsed (start c .args .c) (start c .args .year) + 1)))
-next-is c =
-    let k = start c .args .c in
-    c .of-year2 .ensures ∙ ap (λ n. asRegisterDay (registerDay k (headOfYear k n))) (year-after (start c .args .year) (start c .pre .1))
+    → c .of-year2 .result ≡ registerHead (start c .args .c) (yearsElapsed (start c .args .c) (start c .args .year) + 1)
+next-is c = told-of-next (start c .args .year) (start c .pre .1) (registerHead (start c .args .c)) (c .of-year2 .ensures)
 
 of-year-requires : tie.Need-of-year-requires
 of-year-requires c κs = (c .pre .0, head-of (c .pre .1))
@@ -26,9 +22,7 @@ add-of-year : tie.Need-add-of-year
 add-of-year c = search needs
 
 of-year-requires-2 : tie.Need-of-year-requires-2
-of-year-requires-2 c κs =
-    let k = c .before .args .c in
-    (c .before .pre .0, subst (HeadInRegister k) (sym (year-after (c .before .args .year) (c .before .pre .1))) (head-after (c .before .pre .1)))
+of-year-requires-2 c κs = (c .before .pre .0, head-of-next (c .before .args .year) (c .before .pre .1))
 
 between-requires : tie.Need-between-requires
 between-requires c κs = days-between (start c .pre .1) (c .before .of-year .ensures) (next-is c)

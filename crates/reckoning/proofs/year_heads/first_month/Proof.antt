@@ -1,7 +1,6 @@
 use mathlib.Core.Path.{_≡_, ap, _∙_}
 use Rattle.calendar.specs.Systems.{yearsElapsed}
-use Rattle.calendar.specs.ClosedForms.{monthOfDay, firstMonth}
-use Rattle.printed_heads.specs.PrintedHeads.{registerHead}
+use Rattle.calendar.specs.ClosedForms.{monthOfDay, firstMonth, registerHead}
 use Rattle.printed_heads.proofs.PageAnswers.{found-is-head}
 use Rattle.reckoning.specs.MonthSpans.{monthSpan}
 use Rattle.reckoning.proofs.HeadLaws.{month-of-head, count-day}

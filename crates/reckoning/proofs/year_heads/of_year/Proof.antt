@@ -1,9 +1,7 @@
 use mathlib.Core.Path.{subst, sym, ap, _∙_}
-use Rattle.calendar.specs.Systems.{registerDay}
-use Rattle.calendar.specs.ClosedForms.{headOfYear}
+use Rattle.calendar.specs.ClosedForms.{registerHead}
 use Rattle.printed_heads.proofs.PageAnswers.{found-is-head}
 use Rattle.reckoning.specs.WordBounds.{HeadInRegister}
-use Rattle.reckoning.specs.Requests.{asRegisterDay}
 use borrow.Author.Needs.{needs}
 use Rattle.reckoning.proofs.year_heads.of_year.Statement.{statement}
 use Rattle.reckoning.proofs.year_heads.of_year.Tie as tie
@@ -33,7 +31,7 @@ returns c =
 returns-2 : tie.Need-returns-2
 returns-2 c =
     let k = c .before .before .before .before .before .args .c in
-    c .reckoned .ensures ∙ ap (λ n. asRegisterDay (registerDay k (headOfYear k n))) (c .before .years-elapsed .ensures)
+    c .reckoned .ensures ∙ ap (registerHead k) (c .before .years-elapsed .ensures)
 
 pub of-year-spec : {M : Type 1} → statement M
 of-year-spec =
