@@ -85,8 +85,7 @@ install: all
 page = crates/printed_heads/src/page.rt
 fmt: | build
 	@cp $(page) build/page.rt
-	@rt fmt
-	@mv build/page.rt $(page)
+	@rt fmt; status=$$?; mv build/page.rt $(page); exit $$status
 
 # Everything that was made.
 clean:

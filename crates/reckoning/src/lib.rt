@@ -112,11 +112,11 @@ pub fn days(system: u32, year: u32) -> Days
     year_days::of_year(system, asked.c, year)
 }
 
-// Below are what a citation asks (days, a month, a date) and the pentad in force. They call once for each system, so that
-// the compiler knows the constants and need not divide by variables.
+// Below are what a citation asks (days, a month, a date) and the pentad in force. They call once for each system, so
+// that the compiler knows the constants and need not divide by variables.
 
-// The days of a year as `days` has them, but with no printed head: the language lays the whole page out anew each time
-// that an entry is read, which takes longer than to reckon a head.
+// The days of a year as `days` has them, but reckoned throughout: to read a printed head takes longer, since the
+// language lays out the whole page for it.
 pub fn reckoned_days(system: u32, year: u32) -> Days
     ensures { λ r. ⌜ r ≡ daysOf system year ⌝ }
 {
