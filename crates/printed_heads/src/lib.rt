@@ -5,8 +5,10 @@ ghost use Rattle.calendar.specs.Systems.{guantian, yearsElapsed};
 ghost use Rattle.printed_heads.specs.PrintedHeads.{firstYear, onPage, IsHead, Says, printedHead};
 use calendar::data::RegisterDay;
 use page::HEADS;
+use reads::number;
 
 mod page;
+mod reads;
 
 // The years of the page.
 const FIRST: u32 = 960;
@@ -24,7 +26,7 @@ fn entry(i: usize) -> RegisterDay
     requires { ⌜ i < 320 ⌝ }
     ensures { λ r. ⌜ IsHead guantian (yearsElapsed guantian (firstYear + i)) (r .0) ⌝ }
 {
-    RegisterDay(HEADS[i])
+    RegisterDay(number(&HEADS, i))
 }
 
 // Whether the page has a year of a system.

@@ -1,16 +1,19 @@
+use Prim.Native.Nat.{_+_}
+use mathlib.Core.Path.{subst, sym}
+use Rattle.calendar.specs.Systems.{guantian, yearsElapsed}
+use Rattle.printed_heads.specs.PrintedHeads.{firstYear, IsHead}
 use Rattle.printed_heads.proofs.EachEntry.{each-entry}
 use borrow.Author.Needs.{needs}
 use Rattle.printed_heads.proofs.entry.Statement.{statement}
 use Rattle.printed_heads.proofs.entry.Tie as tie
 
-mul-t3 : tie.Need-mul-t3
-mul-t3 c = search needs
-
-array-read-t6 : tie.Need-array-read-t6
-array-read-t6 c = search needs
+number-requires : tie.Need-number-requires
+number-requires c κs = search needs
 
 returns : tie.Need-returns
-returns c = search each-entry
+returns c =
+    let n = yearsElapsed guantian (firstYear + c .before .before .args .i) in
+    subst (IsHead guantian n) (sym (c .number .ensures)) (search each-entry)
 
 pub entry-spec : {M : Type 1} → statement M
-entry-spec = tie.close (tie.spec mul-t3 array-read-t6 returns)
+entry-spec = tie.close (tie.spec number-requires returns)
