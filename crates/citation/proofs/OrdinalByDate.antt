@@ -18,13 +18,15 @@ use Rattle.calendar.proofs.Rising.{by-order}
 use Rattle.calendar.proofs.Spans.{span-next}
 use Rattle.calendar.proofs.Laws.{months-stay-within, day-in-one-year}
 use Rattle.reckoning.specs.declared.data.Days.{Days}
+use Rattle.reckoning.specs.declared.data.YearHead.{YearHead}
 use Rattle.reckoning.specs.declared.data.Date.{Date}
 use Rattle.reckoning.specs.RefusalNumbers.{DAY}
-use Rattle.reckoning.specs.Requests.{asRegisterDay, daysOf, dateOf}
+use Rattle.reckoning.specs.Requests.{asRegisterDay, daysOf, yearHeadOf, dateOf}
 use Rattle.reckoning.specs.Outcomes.{DaysFound, DaysOutcome, DateFound, DateOutcome}
 use Rattle.reckoning.proofs.RefusalCases.{inside, outside-of}
 use Rattle.reckoning.proofs.RequestsEnd.{days-outcome, date-outcome, year-day-in-scope}
 use Rattle.reckoning.proofs.AnswersFit.{days-fit}
+use Rattle.reckoning.proofs.HeadLaws.{head-of-days}
 use Rattle.citation.specs.declared.judge.Judgement.{Judgement}
 use Rattle.citation.specs.declared.judge.Named.{Named}
 use Rattle.citation.specs.Record.{kindOf, systemOf, yearField, ordinalField, registerDayField}
@@ -43,9 +45,6 @@ days-found system year {y} e z = go (subst (DaysOutcome system year) (sym e) (da
     go (DaysOutcome.found f) = f
 
 module _ (system year ordinal : ℕ) {y : Days} (e : y ≡ daysOf system year) (z : y .refusal ≡ 0) where
-  pub day-fits : ordinal < 2 ^ 16 → Fits w32 (y .head .0 + ordinal)
-  day-fits small = omega (arith, days-fit system year y e z)
-
   pub no-ordinal : ordinal ≡ 0 → refuse DAY ≡ judgeOrdinal system year ordinal
   no-ordinal none =
       ordinal-wrong system year ordinal y e z (outside-of 1 (y .length) ordinal (λ h. omega (arith, h .at-least)))
@@ -135,21 +134,35 @@ module _ (system year ordinal : ℕ) {y : Days} (e : y ≡ daysOf system year) (
 abbrev judgeNamed : ℕ → Named → Judgement
 judgeNamed system n = unlessRefused (n .refusal) 0 (judgeDated system (n .day .0) (n .asked))
 
--- The day that kind 3 names, with the year's days.
-module _ (system year ordinal : ℕ) {y : Days} (e : y ≡ daysOf system year) where
+-- The day that kind 3 names, by the year's head.
+module _ (system year ordinal : ℕ) {h : YearHead} (e : h ≡ yearHeadOf system year) where
+  abbrev y : Days
+  y = daysOf system year
+
+  refusal-is : h .refusal ≡ y .refusal
+  refusal-is = ap (λ x. x .refusal) (e ∙ head-of-days system year)
+
+  day-is : h .day .0 ≡ y .head .0
+  day-is = ap (λ x. x .day .0) (e ∙ head-of-days system year)
+
   named-here : namedIn y year ordinal ≡ namedByOrdinal system year ordinal
   unfolding namedByOrdinal
-  named-here = ap (λ x. namedIn x year ordinal) e
+  named-here = refl
 
-  pub unnamed-year : (y .refusal ≡ 0 → ⊥) → unnamed (y .refusal) ≡ namedByOrdinal system year ordinal
-  unnamed-year h = simp (ne-eqb (y .refusal) 0 h) at named-here
+  pub day-fits : h .refusal ≡ 0 → ordinal < 2 ^ 16 → Fits w32 (h .day .0 + ordinal)
+  day-fits z small = omega (arith, day-is, days-fit system year y refl (sym refusal-is ∙ z))
 
-  pub unnamed-ordinal : y .refusal ≡ 0 → ordinal ≡ 0 → unnamed DAY ≡ namedByOrdinal system year ordinal
-  unnamed-ordinal z none = simp (eq-eqb (y .refusal) 0 z, eq-eqb ordinal 0 none) at named-here
+  pub unnamed-year : (h .refusal ≡ 0 → ⊥) → unnamed (h .refusal) ≡ namedByOrdinal system year ordinal
+  unnamed-year refused = ap unnamed refusal-is ∙ simp (ne-eqb (y .refusal) 0 (λ z. refused (refusal-is ∙ z))) at named-here
 
-  pub named-ordinal : y .refusal ≡ 0 → (ordinal ≡ 0 → ⊥)
-      → record { refusal = 0; day = asRegisterDay (y .head .0 + ordinal - 1); asked = year } ≡ namedByOrdinal system year ordinal
-  named-ordinal z some = simp (eq-eqb (y .refusal) 0 z, ne-eqb ordinal 0 some) at named-here
+  pub unnamed-ordinal : h .refusal ≡ 0 → ordinal ≡ 0 → unnamed DAY ≡ namedByOrdinal system year ordinal
+  unnamed-ordinal z none = simp (eq-eqb (y .refusal) 0 (sym refusal-is ∙ z), eq-eqb ordinal 0 none) at named-here
+
+  pub named-ordinal : h .refusal ≡ 0 → (ordinal ≡ 0 → ⊥)
+      → record { refusal = 0; day = asRegisterDay (h .day .0 + ordinal - 1); asked = year } ≡ namedByOrdinal system year ordinal
+  named-ordinal z some =
+      ap (λ d. record { refusal = 0; day = asRegisterDay (d + ordinal - 1); asked = year }) day-is
+      ∙ simp (eq-eqb (y .refusal) 0 (sym refusal-is ∙ z), ne-eqb ordinal 0 some) at named-here
 
 -- Kind 3, by the day that it names.
 pub ordinal-named : (system year ordinal : ℕ) → judgeNamed system (namedByOrdinal system year ordinal) ≡ judgeOrdinal system year ordinal

@@ -113,19 +113,18 @@ fn unnamed(refusal: u8) -> Named
     }
 }
 
-// Kind 3. Past the year's end a day is dated in another year, or not at all. So the year's length is not looked at, and
-// the compiler leaves the head of the year after out.
+// Kind 3. Past the year's end a day is dated in another year, or not at all. So the year's length is not looked at.
 fn named_by_ordinal(system: u32, year: u32, ordinal: Ordinal) -> Named
     ensures { λ r. ⌜ r ≡ namedByOrdinal system year (ordinal .0) ⌝ }
 {
-    let y = reckoning::reckoned_days(system, year);
-    if y.refusal != 0 {
-        return unnamed(y.refusal);
+    let head = reckoning::reckoned_head(system, year);
+    if head.refusal != 0 {
+        return unnamed(head.refusal);
     }
     if ordinal.0 == 0 {
         return unnamed(DAY);
     }
-    let day = y.head.0 + ordinal.0 as u32 - 1;
+    let day = head.day.0 + ordinal.0 as u32 - 1;
     Named {
         refusal: 0,
         day: RegisterDay(day),

@@ -10,7 +10,7 @@ use Rattle.calendar.specs.Systems.{constantsOf, registerDay}
 use Rattle.calendar.specs.SixtyDayName.{nameOf}
 use Rattle.calendar.specs.Steps.{solsticeDay, solsticeRemainder, moment, dayOf, partsOf, unitsOf}
 use Rattle.calendar.specs.Month.{monthHead}
-use Rattle.calendar.specs.ClosedForms.{pentadOn, monthOfDay, firstMonth, headOfYear, yearOfMonth, monthNumber, leapMark, monthCited}
+use Rattle.calendar.specs.ClosedForms.{pentadOn, monthOfDay, firstMonth, headOfYear, registerHead, yearOfMonth, monthNumber, leapMark, monthCited}
 use Rattle.calendar.specs.LeapMonth.{leapNumber}
 use Rattle.reckoning.specs.declared.data.Solstice.{Solstice}
 use Rattle.reckoning.specs.declared.asked.Asked.{Asked}
@@ -19,6 +19,7 @@ use Rattle.reckoning.specs.declared.data.PentadInForce.{PentadInForce}
 use Rattle.reckoning.specs.declared.data.Year.{Year}
 use Rattle.reckoning.specs.declared.data.Sheet.{Sheet}
 use Rattle.reckoning.specs.declared.data.Month.{Month}
+use Rattle.reckoning.specs.declared.data.YearHead.{YearHead}
 use Rattle.reckoning.specs.declared.data.Days.{Days}
 use Rattle.reckoning.specs.declared.data.Date.{Date}
 use Rattle.reckoning.specs.ComputedRefusals.{outside, yearRefusal, stepRefusal}
@@ -147,6 +148,16 @@ noDays refusal = record { refusal = refusal; head = asRegisterDay 0; length = 0 
 
 unfoldable pub daysOf : ℕ → ℕ → Days
 daysOf system year = answerUnless (yearRefusal system year) system year daysIn noDays
+
+-- The head of year n. Refused: zeros.
+abbrev pub yearHeadIn : Constants → ℕ → YearHead
+yearHeadIn c n = record { refusal = 0; day = registerHead c n }
+
+abbrev pub noYearHead : ℕ → YearHead
+noYearHead refusal = record { refusal = refusal; day = asRegisterDay 0 }
+
+unfoldable pub yearHeadOf : ℕ → ℕ → YearHead
+yearHeadOf system year = answerUnless (yearRefusal system year) system year yearHeadIn noYearHead
 
 -- The month of year n with a number and a leap mark; MONTH where the number is not 1 to 12 or the mark not 0 or 1, and
 -- then LEAP where that month is not leap. Refused: zeros, and with LEAP the number of the year's leap month.

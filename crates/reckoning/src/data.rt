@@ -49,6 +49,12 @@ pub struct Month {
     pub told: u8,
 }
 
+// The head of a year.
+pub struct YearHead {
+    pub refusal: u8,
+    pub day: RegisterDay,
+}
+
 // The days of a year: the first, and how many.
 pub struct Days {
     pub refusal: u8,

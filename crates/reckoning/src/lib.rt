@@ -8,7 +8,7 @@ ghost use Rattle.calendar.specs.Systems.{constantsOf, yearsElapsed};
 ghost use Rattle.calendar.specs.SixtyDayName.{nameOf};
 ghost use Rattle.calendar.specs.LeapMonth.{leapNumber};
 ghost use Rattle.reckoning.specs.ComputedRefusals.{yearRefusal};
-ghost use Rattle.reckoning.specs.Requests.{solsticeOf, qiOf, pentadOf, yearOf, sheetOf, daysOf};
+ghost use Rattle.reckoning.specs.Requests.{solsticeOf, qiOf, pentadOf, yearOf, sheetOf, daysOf, yearHeadOf};
 ghost use Rattle.reckoning.specs.Requests.{monthIn, monthOf, dateOf, pentadInForce};
 use calendar::data::DayName;
 use calendar::data::RegisterDay;
@@ -22,6 +22,7 @@ use data::PentadInForce;
 use data::Sheet;
 use data::Solstice;
 use data::Year;
+use data::YearHead;
 use refusal_numbers::LEAP;
 
 mod asked;
@@ -107,27 +108,40 @@ pub fn days(system: u32, year: u32) -> Days
 {
     let asked = asked::of_year(system, year);
     if asked.refusal != 0 {
-        return year_days::none(asked.refusal);
+        return Days {
+            refusal: asked.refusal,
+            head: RegisterDay(0),
+            length: 0,
+        };
     }
     year_days::of_year(system, asked.c, year)
 }
 
-// Below are what a citation asks (days, a month, a date) and the pentad in force. They call once for each system, so
+// Below are what a citation asks (a year's head, a month, a date) and the pentad in force. They call once for each system, so
 // that the compiler knows the constants and need not divide by variables.
 
-// The days of a year as `days` has them, but reckoned throughout: to read a printed head takes longer, since the
-// language lays out the whole page for it.
-pub fn reckoned_days(system: u32, year: u32) -> Days
-    ensures { λ r. ⌜ r ≡ daysOf system year ⌝ }
+// The head of a year, reckoned even where it is printed: here the compiler makes a jump of the read from the page, and a
+// head takes longer from there.
+pub fn reckoned_head(system: u32, year: u32) -> YearHead
+    ensures { λ r. ⌜ r ≡ yearHeadOf system year ⌝ }
 {
     let refusal = refusal::of_year(system, year);
     if refusal != 0 {
-        return year_days::none(refusal);
+        return YearHead {
+            refusal: refusal,
+            day: RegisterDay(0),
+        };
     }
     if system == 1 {
-        return year_days::reckoned(guantian(), year);
+        return YearHead {
+            refusal: 0,
+            day: year_heads::reckoned(guantian(), year),
+        };
     }
-    year_days::reckoned(jiyuan(), year)
+    YearHead {
+        refusal: 0,
+        day: year_heads::reckoned(jiyuan(), year),
+    }
 }
 
 // The number of a year's leap month; 0 where it has none.

@@ -2,23 +2,12 @@
 ghost use mathlib.Core.Path.{_≡_};
 ghost use Prim.Native.Nat.{_-_, _≤_};
 ghost use Rattle.calendar.specs.Systems.{constantsOf, yearsElapsed};
-ghost use Rattle.reckoning.specs.Requests.{noDays, daysIn};
+ghost use Rattle.reckoning.specs.Requests.{daysIn};
 ghost use Rattle.reckoning.specs.WordBounds.{YearInRegister};
-use crate::closed_forms::years_elapsed;
 use crate::data::Days;
 use crate::year_heads;
 use calendar::data::Constants;
 use calendar::data::RegisterDay;
-
-pub(crate) fn none(refusal: u8) -> Days
-    ensures { λ r. ⌜ r ≡ noDays refusal ⌝ }
-{
-    Days {
-        refusal: refusal,
-        head: RegisterDay(0),
-        length: 0,
-    }
-}
 
 // The days from a year's head to the next year's.
 fn between(head: RegisterDay, next: RegisterDay) -> Days
@@ -32,23 +21,12 @@ fn between(head: RegisterDay, next: RegisterDay) -> Days
     }
 }
 
-// The days of a year, by its printed head and the next year's where there are such.
+// The days of a year.
 pub(crate) fn of_year(system: u32, c: Constants, year: u32) -> Days
     requires { ⌜ (c ≡ constantsOf system) × YearInRegister c (yearsElapsed c year) ⌝ }
     ensures { λ r. ⌜ r ≡ daysIn c (yearsElapsed c year) ⌝ }
 {
     let head = year_heads::of_year(system, c, year);
     let next = year_heads::of_year(system, c, year + 1);
-    between(head, next)
-}
-
-// The same, reckoned.
-pub(crate) fn reckoned(c: Constants, year: u32) -> Days
-    requires { ⌜ YearInRegister c (yearsElapsed c year) ⌝ }
-    ensures { λ r. ⌜ r ≡ daysIn c (yearsElapsed c year) ⌝ }
-{
-    let n = years_elapsed(c, year);
-    let head = year_heads::reckoned(c, n);
-    let next = year_heads::reckoned(c, n + 1);
     between(head, next)
 }

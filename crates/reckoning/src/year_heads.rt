@@ -13,12 +13,12 @@ use calendar::data::Constants;
 use calendar::data::RegisterDay;
 use printed_heads::Printed;
 
-// The register day of the head of year n, reckoned.
-pub(crate) fn reckoned(c: Constants, n: u64) -> RegisterDay
-    requires { ⌜ HeadInRegister c n ⌝ }
-    ensures { λ r. ⌜ r ≡ registerHead c n ⌝ }
+// The register day of a year's head, reckoned.
+pub(crate) fn reckoned(c: Constants, year: u32) -> RegisterDay
+    requires { ⌜ HeadInRegister c (yearsElapsed c year) ⌝ }
+    ensures { λ r. ⌜ r ≡ registerHead c (yearsElapsed c year) ⌝ }
 {
-    let first = first_of_year(c, n);
+    let first = first_of_year(c, years_elapsed(c, year));
     register_day(c, first.head)
 }
 
@@ -30,7 +30,7 @@ pub(crate) fn of_year(system: u32, c: Constants, year: u32) -> RegisterDay
     let printed = printed_heads::of_year(system, year);
     match printed {
         Printed::Head(head) => head,
-        Printed::Unprinted => reckoned(c, years_elapsed(c, year)),
+        Printed::Unprinted => reckoned(c, year),
     }
 }
 

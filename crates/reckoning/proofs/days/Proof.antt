@@ -8,12 +8,9 @@ use Rattle.reckoning.proofs.days.Tie as tie
 of-year-requires : tie.Need-of-year-requires
 of-year-requires c κs = search needs
 
-none-requires : tie.Need-none-requires
-none-requires c κs = search needs
-
 returns : tie.Need-returns
 unfolding daysOf
-returns c = c .none .ensures ∙ refused daysIn noDays _ _ (c .before .before .before .of-year .ensures) (c .before .if1 .taken)
+returns c = refused daysIn noDays _ _ (c .before .before .of-year .ensures) (c .if1 .taken)
 
 of-year-requires-2 : tie.Need-of-year-requires-2
 of-year-requires-2 c κs = asked-of-system _ _ (c .before .before .of-year .ensures) (c .if1 .left)
@@ -26,4 +23,4 @@ returns-2 c =
 
 pub days-spec : {M : Type 1} → statement M
 days-spec =
-    tie.close (tie.spec of-year-requires none-requires returns of-year-requires-2 returns-2)
+    tie.close (tie.spec of-year-requires returns of-year-requires-2 returns-2)

@@ -1,7 +1,4 @@
-use mathlib.Core.Path.{subst, sym, ap, _∙_}
-use Rattle.calendar.specs.ClosedForms.{registerHead}
 use Rattle.printed_heads.proofs.PageAnswers.{found-is-head}
-use Rattle.reckoning.specs.WordBounds.{HeadInRegister}
 use borrow.Author.Needs.{needs}
 use Rattle.reckoning.proofs.year_heads.of_year.Statement.{statement}
 use Rattle.reckoning.proofs.year_heads.of_year.Tie as tie
@@ -15,13 +12,8 @@ enum-known-printed c = search needs
 enum-told : tie.Need-enum-told
 enum-told c = search needs
 
-years-elapsed-requires : tie.Need-years-elapsed-requires
-years-elapsed-requires c κs = search needs
-
 reckoned-requires : tie.Need-reckoned-requires
-reckoned-requires c κs =
-    let start = c .before .before .before .before in
-    subst (HeadInRegister (start .args .c)) (sym (c .years-elapsed .ensures)) (start .pre .1)
+reckoned-requires c κs = search needs
 
 returns : tie.Need-returns
 returns c =
@@ -29,9 +21,7 @@ returns c =
     found-is-head _ _ (asked .before .pre .0) (asked .of-year .ensures .1) (c .before .printed .given .1)
 
 returns-2 : tie.Need-returns-2
-returns-2 c =
-    let k = c .before .before .before .before .before .args .c in
-    c .reckoned .ensures ∙ ap (registerHead k) (c .before .years-elapsed .ensures)
+returns-2 c = c .reckoned .ensures
 
 pub of-year-spec : {M : Type 1} → statement M
 of-year-spec =
@@ -40,7 +30,6 @@ of-year-spec =
     of-year-requires
     enum-known-printed
     enum-told
-    years-elapsed-requires
     reckoned-requires
     returns
     returns-2)
