@@ -6,3 +6,5 @@ pub mod EachEntry
 pub mod PageAnswers
 -- An entry by its block and its place there.
 pub mod Places
+-- Some years, computed.
+pub mod Examples

@@ -32,7 +32,7 @@ tested : {system year : ℕ} → OnPage system year → onPage system year ≡ t
 tested {system} p =
     simp (eq-eqb system 1 (p .is-guantian), le-leb _ _ (p .year-inside .at-least), le-leb _ _ (p .year-inside .at-most))
 
--- They are Guantian's.
+-- The constants of a year on it are Guantian's.
 of-guantian : {system year : ℕ} → OnPage system year → constantsOf system ≡ guantian
 of-guantian {system} p = simp (eq-eqb system 1 (p .is-guantian))
 
@@ -72,6 +72,13 @@ says system year =
     let of-system = subst (λ c. IsHead c (yearsElapsed c year) (registerDay guantian (headOfYear guantian n))) (sym (of-guantian p)) head in
     subst (Says system year) (answers {r = registerHead guantian n} p head) (p, of-system))
     (λ off. subst (Says system year) (is-silent system year off) (λ p. true≢false (sym (tested p) ∙ off)))
+
+-- The words leave one answer.
+pub says-only : (system year : ℕ) (p : Printed) → Says system year p → p ≡ printedHead system year
+says-only system year (Head r) s =
+    answers (s .0) (subst (λ c. IsHead c (yearsElapsed c year) (r .0)) (of-guantian (s .0)) (s .1))
+says-only system year Unprinted s =
+    by-bool (onPage system year) (λ on. absurd (s (is-on system year on))) (λ off. is-silent system year off)
 
 pub answered : (system year : ℕ) {p : Printed} → p ≡ printedHead system year → (p ≡ printedHead system year) × Says system year p
 answered system year e = (e, subst (Says system year) (sym e) (says system year))

@@ -27,6 +27,9 @@ month-of-head c ok n =
     let k = firstMonth c n in
     sym (month-unique K k (headOfYear c n) (omega arith) (omega (arith, K .month-least k)))
 
+pub is-its-months-head : {c : Constants} (n : ℕ) {d : ℕ} → Consistent c → d ≡ headOfYear c n → monthHead c (monthOfDay c d) ≡ d
+is-its-months-head {c} n ok e = ap (λ d. monthHead c (monthOfDay c d)) e ∙ ap (monthHead c) (month-of-head c ok n) ∙ sym e
+
 -- The head's count day is told from its register day.
 pub count-day : {c : Constants} {n : ℕ} {r : RegisterDay} → HeadInRegister c n → r ≡ registerHead c n
     → r .0 + c .anchor ≡ headOfYear c n

@@ -1,9 +1,11 @@
 // The heads of years: from the printed page, or reckoned.
 ghost use mathlib.Core.Path.{_≡_};
+ghost use Prim.Native.Nat.{_+_, _<_, _^_};
 ghost use Rattle.calendar.specs.Systems.{constantsOf, yearsElapsed};
-ghost use Rattle.calendar.specs.ClosedForms.{firstMonth, registerHead};
+ghost use Rattle.calendar.specs.Month.{monthHead};
+ghost use Rattle.calendar.specs.ClosedForms.{monthOfDay, firstMonth, registerHead};
 ghost use Rattle.reckoning.specs.MonthSpans.{monthSpan};
-ghost use Rattle.reckoning.specs.WordBounds.{HeadInRegister};
+ghost use Rattle.reckoning.specs.WordBounds.{ConstantsFit, HeadInRegister};
 use crate::closed_forms::register_day;
 use crate::closed_forms::years_elapsed;
 use crate::month_spans::MonthSpan;
@@ -34,14 +36,27 @@ pub(crate) fn of_year(system: u32, c: Constants, year: u32) -> RegisterDay
     }
 }
 
-// The month that a year begins with: that of its printed head, or else of its solstice.
+// The month whose head is count day d.
+fn of_head(c: Constants, d: u64) -> MonthSpan
+    requires { ⌜ ConstantsFit c × (d + 1 < 2 ^ 38) × (monthHead c (monthOfDay c d) ≡ d) ⌝ }
+    ensures { λ r. ⌜ r ≡ monthSpan c (monthOfDay c d) ⌝ }
+{
+    let m = of_day(c, d);
+    MonthSpan {
+        month: m.month,
+        head: d,
+        next: m.next,
+    }
+}
+
+// The month that a year begins with: by its printed head, or else by its solstice.
 pub(crate) fn first_month(system: u32, c: Constants, year: u32) -> MonthSpan
     requires { ⌜ (c ≡ constantsOf system) × HeadInRegister c (yearsElapsed c year) ⌝ }
     ensures { λ r. ⌜ r ≡ monthSpan c (firstMonth c (yearsElapsed c year)) ⌝ }
 {
     let printed = printed_heads::of_year(system, year);
     match printed {
-        Printed::Head(head) => of_day(c, head.0 as u64 + c.anchor),
+        Printed::Head(head) => of_head(c, head.0 as u64 + c.anchor),
         Printed::Unprinted => first_of_year(c, years_elapsed(c, year)),
     }
 }

@@ -1,9 +1,10 @@
 use mathlib.Core.Path.{_≡_, ap, _∙_}
+use native.Mathlib.Omega.{arith}
 use Rattle.calendar.specs.Systems.{yearsElapsed}
 use Rattle.calendar.specs.ClosedForms.{monthOfDay, firstMonth, registerHead}
 use Rattle.printed_heads.proofs.PageAnswers.{found-is-head}
 use Rattle.reckoning.specs.MonthSpans.{monthSpan}
-use Rattle.reckoning.proofs.HeadLaws.{month-of-head, count-day}
+use Rattle.reckoning.proofs.HeadLaws.{month-of-head, is-its-months-head, count-day}
 use borrow.Author.Needs.{needs}
 use Rattle.reckoning.proofs.year_heads.first_month.Statement.{statement}
 use Rattle.reckoning.proofs.year_heads.first_month.Tie as tie
@@ -12,11 +13,13 @@ use Rattle.reckoning.proofs.year_heads.first_month.Tie as tie
 abbrev asked : tie.After-known-told → tie.After-of-year
 asked c = c .before .before .before
 
-abbrev found : tie.After-of-day → tie.After-known-told
+abbrev found : tie.After-of-head → tie.After-known-told
 found c = c .before .before .before
 
 -- The head that is printed.
-head-found : (c : tie.After-known-told) → c .before .printed .given .0 .0 ≡ registerHead (asked c .before .args .c) (yearsElapsed (asked c .before .args .c) (asked c .before .args .year))
+head-found : (c : tie.After-known-told)
+    → c .before .printed .given .0 .0
+    ≡ registerHead (asked c .before .args .c) (yearsElapsed (asked c .before .args .c) (asked c .before .args .year))
 head-found c = found-is-head _ _ (asked c .before .pre .0) (asked c .of-year .ensures .1) (c .before .printed .given .1)
 
 of-year-requires : tie.Need-of-year-requires
@@ -25,14 +28,19 @@ of-year-requires c κs = search needs
 enum-known-printed : tie.Need-enum-known-printed
 enum-known-printed c = search needs
 
-cast-of-day : tie.Need-cast-of-day
-cast-of-day c = search needs
+cast-of-head : tie.Need-cast-of-head
+cast-of-head c = search needs
 
-add-of-day : tie.Need-add-of-day
-add-of-day c = search needs
+add-of-head : tie.Need-add-of-head
+add-of-head c = search needs
 
-of-day-requires : tie.Need-of-day-requires
-of-day-requires c κs = search needs
+of-head-requires : tie.Need-of-head-requires
+of-head-requires c κs =
+    let here = c .before .before in
+    let start = asked here .before in
+    let fit = start .pre .1 .constants-fit in
+    let n = yearsElapsed (start .args .c) (start .args .year) in
+    (fit, omega arith, is-its-months-head n (fit .consistent) (count-day (start .pre .1) (head-found here)))
 
 enum-told : tie.Need-enum-told
 enum-told c = search needs
@@ -49,7 +57,7 @@ returns c =
     let k = start .args .c in
     let n = yearsElapsed k (start .args .year) in
     let day = ap (monthOfDay k) (count-day (start .pre .1) (head-found (found c))) in
-    c .of-day .ensures ∙ ap (monthSpan k) (day ∙ month-of-head k (start .pre .1 .constants-fit .consistent) n)
+    c .of-head .ensures ∙ ap (monthSpan k) (day ∙ month-of-head k (start .pre .1 .constants-fit .consistent) n)
 
 returns-2 : tie.Need-returns-2
 returns-2 c =
@@ -62,9 +70,9 @@ first-month-spec =
     (tie.spec
     of-year-requires
     enum-known-printed
-    cast-of-day
-    add-of-day
-    of-day-requires
+    cast-of-head
+    add-of-head
+    of-head-requires
     enum-told
     years-elapsed-requires
     first-of-year-requires
