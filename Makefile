@@ -22,9 +22,9 @@ test_tools = build/independent build/store_check build/null_check build/builders
 bench_tools = build/bench build/bench_heads build/c_program build/c_compare build/c_pentads
 # The longest first, so that two at a time end together.
 tests = tests/mixups.sh tests/program.sh tests/every_day.sh tests/every_year.sh tests/pipes.sh tests/damaged.sh \
-        tests/every_comparison.sh tests/every_pentad.sh tests/faults.sh tests/cases.sh tests/descriptors.sh tests/arguments.sh \
-        tests/manual.sh tests/install.sh tests/shared.sh tests/shared.py tests/header.sh tests/host.sh tests/printed_heads.sh \
-        build/null_check build/builders build/incident
+        tests/every_comparison.sh tests/every_pentad.sh tests/faults.sh tests/cases.sh tests/descriptors.sh \
+        tests/arguments.sh tests/manual.sh tests/install.sh tests/shared.sh tests/shared.py tests/header.sh \
+        tests/host.sh tests/printed_heads.sh build/null_check build/builders build/incident
 crates := crates.txt $(shell find crates -name must-fail -prune -o -type f -print)
 
 # Two runs of rt at a time would share target/.
@@ -46,7 +46,7 @@ test: all test-tools
 	@printf '%s\n' $(tests) | xargs -P 2 -I % sh -c '% || { echo "% failed" >&2; exit 255; }'
 	@rt ci
 
-# The storing step and the programs, beside C written by hand.
+# The storing step, heads and the programs, beside C written by hand.
 bench: all $(bench_tools)
 	@bench/run.sh
 
@@ -84,7 +84,7 @@ install: all
 # Everything in the prover's layout but for the printed page, which it would lay one number to a line.
 page = crates/printed_heads/src/page.rt
 fmt: | build
-	@cp $(page) build/page.rt
+	@cp -p $(page) build/page.rt
 	@rt fmt; status=$$?; mv build/page.rt $(page); exit $$status
 
 # Everything that was made.
@@ -138,22 +138,23 @@ build/feed: tests/feed.c | build
 build/faults.so: tests/faults.c | build
 	$(CC) $(CFLAGS) -fPIC -shared -o $@ $<
 
-build/bench: bench/bench.c bench/timing.c bench/records.c bench/c_store.c $(wildcard bench/*.h) include/chiselbrow.h \
+bench_common = bench/timing.c bench/random.c
+
+build/bench: bench/bench.c bench/records.c bench/c_store.c $(bench_common) $(wildcard bench/*.h) include/chiselbrow.h \
              $(library) build/from_page.a
 	$(CC) $(CFLAGS) -Iinclude -o $@ $(filter %.c,$^) $(filter %.a,$^)
 
-build/bench_heads: bench/bench_heads.c bench/timing.c bench/records.c bench/c_store.c bench/c_heads.c \
-                   $(wildcard bench/*.h) build/libbench_heads.a
+build/bench_heads: bench/bench_heads.c bench/c_heads.c $(bench_common) $(wildcard bench/*.h) build/libbench_heads.a
 	$(CC) $(CFLAGS) -o $@ $(filter %.c,$^) $(filter %.a,$^)
 
-# The storing step with the heads that ordinals are counted from taken from the printed page, to be measured: one word
-# changed in a copy, which is proved as well. Its function is renamed, so that both can be linked.
-build/from_page.a: $(crates) | build
-	@echo "proving the storing step from the page (what the prover says: build/from_page.log)"
+# The storing step with the head of a citation by ordinal read from the page, to be measured: a copy, changed by a patch
+# and proved as well. Its function is renamed, so that both can be linked.
+build/from_page.a: bench/from_page.patch $(crates) | build
+	@echo "proving the storing step with heads from the page (what the prover says: build/from_page.log)"
 	@rm -rf build/from_page && mkdir build/from_page && cp -R crates crates.txt build/from_page
-	@sed -i 's/reckoned_days/days/' build/from_page/crates/citation/src/judge.rt
-	@sed -i 's/reckoned-days/days/g' build/from_page/crates/citation/proofs/judge/named_by_ordinal/Proof.antt
-	@cd build/from_page && rt staticlib citation < /dev/null > ../from_page.log 2>&1 || { cat ../from_page.log >&2; exit 1; }
+	@cd build/from_page && patch -sp1 < ../../bench/from_page.patch
+	@cd build/from_page && rt staticlib citation < /dev/null > ../from_page.log 2>&1 || \
+	    { cat ../from_page.log >&2; exit 1; }
 	@objcopy --redefine-sym chiselbrow_store=store_from_page build/from_page/target/staticlib/libcitation.a $@
 	@rm -r build/from_page
 

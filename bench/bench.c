@@ -8,14 +8,14 @@
 #include <stdio.h>
 #include <stdlib.h>
 #include <string.h>
-#include <time.h>
 
 #include "c_store.h"
 #include "chiselbrow.h"
 #include "records.h"
 #include "timing.h"
 
-/* The storing step so changed, and called so. */
+/* chiselbrow_store with the head of a citation by ordinal read from the page:
+ * build/from_page.a, from a copy changed by from_page.patch. */
 uint64_t store_from_page(const uint8_t *input, size_t input_len,
                          uint8_t *output, size_t output_len);
 
@@ -45,7 +45,7 @@ static const struct {
     {"kind 1", make_accepted, 1},
     {"kind 2", make_accepted, 2},
     {"kind 3", make_accepted, 3},
-    {"kind 3 printed", make_printed, 3},
+    [PRINTED] = {"kind 3 printed", make_printed, 3},
     {"kind 4", make_accepted, 4},
     {"mixed", make_mixed, 5},
     {"refused 10", make_refused_by, 10}
@@ -130,7 +130,7 @@ static void check_batch(const struct batch *batch, storing_step *store)
 /* Takes up every answer and an output byte, so that no call is left out. */
 static volatile uint64_t sink;
 
-/* One loop for each storing step, so that both are called by their symbol. */
+/* One loop for each storing step, so that each is called by its symbol. */
 #define DEFINE_PASS(pass, store)                                        \
     static void pass(const void *records)                               \
     {                                                                   \
@@ -167,21 +167,13 @@ static void measure_page(const struct batch *batch)
     struct way from_page = {"from page", pass_from_page};
     struct way reckoned = {"reckoned", pass_chiselbrow};
 
-    compare_ways("store kind 3 from page", from_page, reckoned,
+    compare_ways("store kind 3 page/reckoned", from_page, reckoned,
                  batch, RECORDS);
 }
 
 int main(int argc, char **argv)
 {
-    struct random random;
-
-    if (argc > 2) {
-        fprintf(stderr, "usage: bench [SEED]\n");
-        return 2;
-    }
-    random.state = argc == 2 ? strtoull(argv[1], NULL, 0)
-                             : (uint64_t)time(NULL);
-    printf("seed %" PRIu64 "\n", random.state);
+    struct random random = seeded(argc, argv);
 
     fill_batches(&random);
     for (size_t i = 0; i < BATCHES; i++) {

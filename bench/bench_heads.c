@@ -7,22 +7,21 @@
 #include <stdbool.h>
 #include <stdio.h>
 #include <stdlib.h>
-#include <time.h>
 
 #include "c_calendar.h"
 #include "c_heads.h"
-#include "records.h"
+#include "random.h"
 #include "timing.h"
 
 enum {
-    HEADS = 100000
+    ASKED = 100000
 };
 
 /* Of the crate bench_heads. */
 uint32_t head_from_page(uint32_t system, uint32_t year);
 uint32_t head_reckoned(uint32_t system, uint32_t year);
 
-static uint32_t years[HEADS];
+static uint32_t years[ASKED];
 
 /* All agree, and no other year has a head on the page or in the table. */
 static void check(void)
@@ -32,7 +31,7 @@ static void check(void)
         uint32_t head = c_head(1, year), printed = is_printed ? head : 0;
 
         if (head_reckoned(1, year) == head &&
-            head_from_page(1, year) == printed && c_printed(1, year) == printed)
+            head_from_page(1, year) == printed && c_head_from_table(1, year) == printed)
             continue;
         fprintf(stderr, "bench_heads: the heads of year %" PRIu32 " differ\n",
                 year);
@@ -44,44 +43,34 @@ static void check(void)
 static volatile uint64_t sink;
 
 #define DEFINE_PASS(pass, head)                                         \
-    static void pass(const void *asked)                                 \
+    static void pass(const void *batch)                                 \
     {                                                                   \
-        const uint32_t *of = asked;                                     \
+        const uint32_t *asked = batch;                                  \
         uint64_t sum = 0;                                               \
                                                                         \
-        for (size_t i = 0; i < HEADS; i++)                              \
-            sum += head(1, of[i]);                                      \
+        for (size_t i = 0; i < ASKED; i++)                              \
+            sum += head(1, asked[i]);                                   \
         sink += sum;                                                    \
     }
 
 DEFINE_PASS(pass_page, head_from_page)
 DEFINE_PASS(pass_reckoned, head_reckoned)
 DEFINE_PASS(pass_c, c_head)
-DEFINE_PASS(pass_c_table, c_printed)
+DEFINE_PASS(pass_c_table, c_head_from_table)
 
 int main(int argc, char **argv)
 {
-    struct random random;
-
-    if (argc > 2) {
-        fprintf(stderr, "usage: bench_heads [SEED]\n");
-        return 2;
-    }
-    random.state = argc == 2 ? strtoull(argv[1], NULL, 0)
-                             : (uint64_t)time(NULL);
+    struct random random = seeded(argc, argv);
+    struct way page = {"page", pass_page}, reckoned = {"reckoned", pass_reckoned};
+    struct way c_table = {"C table", pass_c_table}, c = {"C", pass_c};
 
     c_fill_table();
     check();
-    for (size_t i = 0; i < HEADS; i++)
+    for (size_t i = 0; i < ASKED; i++)
         years[i] = FIRST_PRINTED + random_below(&random, PRINTED_YEARS);
 
-    struct way page = {"page", pass_page};
-    struct way reckoned = {"reckoned", pass_reckoned};
-    struct way c = {"C", pass_c}, c_table = {"C", pass_c_table};
-
-    compare_ways("head", page, reckoned, years, HEADS);
-    page.name = reckoned.name = "chiselbrow";
-    compare_ways("head reckoned", reckoned, c, years, HEADS);
-    compare_ways("head from page", page, c_table, years, HEADS);
+    compare_ways("head page/reckoned", page, reckoned, years, ASKED);
+    compare_ways("head page", page, c_table, years, ASKED);
+    compare_ways("head reckoned", reckoned, c, years, ASKED);
     return 0;
 }

@@ -24,7 +24,7 @@ trap 'rm -rf -- "$scratch"' EXIT
 
 "${CC:-gcc}" -std=c11 -O2 -Wall -Wextra -Wpedantic \
     -o "$scratch/make_records" \
-    "$here/make_records.c" "$here/records.c" "$here/c_store.c"
+    "$here/make_records.c" "$here/records.c" "$here/random.c" "$here/c_store.c"
 echo "seed $seed"
 
 # Sets took to the microseconds that a program takes for the stream.

@@ -14,7 +14,7 @@ uint32_t c_head(uint32_t system, uint32_t year)
     return system != 1 || year - 1 >= LAST_YEAR ? 0 : reckon(year);
 }
 
-uint32_t c_printed(uint32_t system, uint32_t year)
+uint32_t c_head_from_table(uint32_t system, uint32_t year)
 {
     uint32_t place = year - FIRST_PRINTED;
 

@@ -2,21 +2,8 @@
 
 #include <string.h>
 
+#include "c_heads.h"
 #include "c_store.h"
-
-static uint64_t next_random(struct random *random)
-{
-    uint64_t mixed = random->state += UINT64_C(0x9E3779B97F4A7C15);
-
-    mixed = (mixed ^ mixed >> 30) * UINT64_C(0xBF58476D1CE4E5B9);
-    mixed = (mixed ^ mixed >> 27) * UINT64_C(0x94D049BB133111EB);
-    return mixed ^ mixed >> 31;
-}
-
-uint32_t random_below(struct random *random, uint32_t bound)
-{
-    return (uint32_t)((next_random(random) >> 32) * bound >> 32);
-}
 
 static void put_16(uint8_t *to, uint32_t number)
 {
@@ -81,7 +68,9 @@ size_t make_accepted(struct random *random, uint32_t kind, uint8_t *record)
 
 size_t make_printed(struct random *random, uint32_t kind, uint8_t *record)
 {
-    static const struct span printed = {1, 1, 960, 320};
+    static const struct span printed = {
+        1, 1, FIRST_PRINTED, PRINTED_YEARS
+    };
 
     return make_within(random, &printed, kind, record);
 }

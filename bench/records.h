@@ -7,17 +7,12 @@
 #include <stddef.h>
 #include <stdint.h>
 
+#include "random.h"
+
 enum {
     KINDS = 4,
     RECORD_ROOM = 16    /* more than the longest record made here */
 };
-
-struct random {
-    uint64_t state;     /* any seed */
-};
-
-/* A number from 0 up to, not including, the bound. */
-uint32_t random_below(struct random *random, uint32_t bound);
 
 /* Writes an accepted record of the kind, 1 to 4, in a random system, for a
  * random day of the years 1 to 3000. Returns its length. */

@@ -2,8 +2,7 @@
 # Runs all measurements on what make has built: nanoseconds a record for the
 # storing step, nanoseconds a head for years' heads, records a second for the
 # program, nanoseconds a year or a day for the almanac, and at the end the ratios
-# of their times to those that stand beside them, which are C's but for what is
-# said to be from the page.
+# by themselves: to C's time, or to that of what stands after a slash.
 
 set -euo pipefail
 cd "$(dirname "$0")/.."

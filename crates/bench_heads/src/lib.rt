@@ -18,5 +18,5 @@ pub extern "C" fn head_from_page(system: u32, year: u32) -> u32
 pub extern "C" fn head_reckoned(system: u32, year: u32) -> u32
     ensures { λ r. ⌜ r ≡ reckoned system year ⌝ }
 {
-    reckoning::reckoned_days(system, year).head.0
+    reckoning::reckoned_head(system, year).day.0
 }

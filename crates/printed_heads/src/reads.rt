@@ -1,5 +1,5 @@
-// An entry of a page, by its block of sixteen and its place there. Here the compiler knows every index, and so keeps the
-// page as data; for an index that it does not know it lays the whole page out on the stack, each time that it is read.
+// An entry of a page, by its block of sixteen and its place there. Here the compiler knows every index, and so keeps
+// the page as data; for an index that it does not know it lays the whole page out on the stack, at each read.
 ghost use mathlib.Core.Path.{_≡_};
 ghost use Prim.Native.Nat.{_+_, _≤_, _<_};
 ghost use lib.ListN.{getD};

@@ -117,11 +117,11 @@ pub fn days(system: u32, year: u32) -> Days
     year_days::of_year(system, asked.c, year)
 }
 
-// Below are what a citation asks (a year's head, a month, a date) and the pentad in force. They call once for each system, so
-// that the compiler knows the constants and need not divide by variables.
+// Below are what a citation asks (a year's head, a month, a date) and the pentad in force. They call once for each
+// system, so that the compiler knows the constants and need not divide by variables.
 
-// The head of a year, reckoned even where it is printed: here the compiler makes a jump of the read from the page, and a
-// head takes longer from there.
+// The head of a year, reckoned even where it is printed: among the code of the storing step the compiler makes a jump of
+// the read from the page, which takes longer.
 pub fn reckoned_head(system: u32, year: u32) -> YearHead
     ensures { λ r. ⌜ r ≡ yearHeadOf system year ⌝ }
 {

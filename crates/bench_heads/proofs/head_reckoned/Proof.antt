@@ -3,11 +3,11 @@ use borrow.Author.Needs.{needs}
 use Rattle.bench_heads.proofs.head_reckoned.Statement.{statement}
 use Rattle.bench_heads.proofs.head_reckoned.Tie as tie
 
-reckoned-days-requires : tie.Need-reckoned-days-requires
-reckoned-days-requires c κs = search needs
+reckoned-head-requires : tie.Need-reckoned-head-requires
+reckoned-head-requires c κs = search needs
 
 returns : tie.Need-returns
-returns c = ap (λ d. d .head .0) (c .reckoned-days .ensures)
+returns c = ap (λ h. h .day .0) (c .reckoned-head .ensures)
 
 pub head-reckoned-spec : {M : Type 1} → statement M
-head-reckoned-spec = tie.close (tie.spec reckoned-days-requires returns)
+head-reckoned-spec = tie.close (tie.spec reckoned-head-requires returns)
