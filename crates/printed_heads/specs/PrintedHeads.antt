@@ -11,7 +11,7 @@ use Rattle.calendar.specs.ClosedForms.{registerHead}
 use Rattle.printed_heads.specs.declared.Printed.{Printed}
 use Rattle.printed_heads.specs.declared.Printed.the-variants.{Head, Unprinted}
 
--- The years whose heads are printed, of Guantian alone, system 1.
+-- The common years whose heads are printed, of Guantian alone, system 1.
 abbrev pub firstYear : ℕ
 firstYear = 960
 
@@ -22,17 +22,20 @@ pub record OnPage (system year : ℕ) : Type 0 where
   pub is-guantian : system ≡ 1
   pub year-inside : Inside firstYear lastYear year
 
--- r is the register day of year n's head: that of the month which has the solstice's day, by the rule of Q-2.
+-- r is the register day of the head of the year with n years elapsed: of the first day of the month that has the
+-- solstice's day, by the rule of Q-2.
 pub record IsHead (c : Constants) (n r : ℕ) : Type 0 where
   pub span : Span c n
   pub register-day : IsRegisterDay c r (yearHead span)
 
--- What the page says of a year, in words.
+-- What the page says of a common year, in words. That it is read from the 320 numbers no definition says: see `entry` in
+-- src/lib.rt.
 abbrev pub Says : ℕ → ℕ → Printed → Type 0
-Says system year (Head r) = OnPage system year × IsHead (constantsOf system) (yearsElapsed (constantsOf system) year) (r .0)
+Says system year (Head r) =
+    OnPage system year × IsHead (constantsOf system) (yearsElapsed (constantsOf system) year) (r .0)
 Says system year Unprinted = OnPage system year → ⊥
 
--- The same as an equation.
+-- Computed: whether the page has a year, and what it says of it.
 abbrev pub onPage : ℕ → ℕ → Bool
 onPage system year = eqb system 1 && (leb firstYear year && leb year lastYear)
 

@@ -21,9 +21,11 @@ use crate::year_heads::first_month;
 use calendar::data::Constants;
 use calendar::data::RegisterDay;
 
-// `count` months from month `first` on: in order each head, number and leap mark, then the head after them.
+// `count` months from month `first` on: in order each head, number and leap mark, then `closing`, the head after them.
 fn list(c: Constants, first: MonthSpan, count: usize, closing: RegisterDay) -> Year
-    requires { ⌜ (first ≡ monthSpan c (first .month)) × (closing ≡ headAt c (first .month) count) × MonthsInRegister c (first .month) count ⌝ }
+    requires { ⌜ (first ≡ monthSpan c (first .month))
+        × (closing ≡ headAt c (first .month) count)
+        × MonthsInRegister c (first .month) count ⌝ }
     ensures { λ r. ⌜ r ≡ monthsFrom c (first .month) count ⌝ }
 {
     let mut heads = [RegisterDay(0); 14];

@@ -10,6 +10,7 @@ use Rattle.printed_heads.proofs.entry.Tie as tie
 number-requires : tie.Need-number-requires
 number-requires c κs = search needs
 
+-- The page is tested here. Which number is wrong, where one is, tests/printed_heads.sh tells.
 returns : tie.Need-returns
 returns c =
     let n = yearsElapsed guantian (firstYear + c .before .before .args .i) in
