@@ -7,7 +7,8 @@ scratch=$(mktemp -d)
 trap 'rm -rf "$scratch"' EXIT
 cp -r crates "$scratch/crates"
 mkdir -p "$scratch/crates/mixup/src"
-grep -E '^(calendar|reckoning):' crates.txt > "$scratch/crates.txt"
+# The crates stand in order of dependence.
+sed '/^reckoning:/q' crates.txt > "$scratch/crates.txt"
 echo 'mixup: calendar reckoning' >> "$scratch/crates.txt"
 
 count=0
