@@ -32,7 +32,7 @@ crates := crates.txt $(shell find crates -name must-fail -prune -o -type f -prin
 # So that nothing is printed after the gate's last line.
 MAKEFLAGS += --no-print-directory
 
-.PHONY: all test-tools test bench sky run install fmt clean
+.PHONY: all test-tools test bench sky run install clean
 
 # The programs, the library as an archive and shared, and the example host. What they stand on comes first: it is proved
 # on all cores at once, and an archive's own crate by itself.
@@ -80,12 +80,6 @@ install: all
 	    echo '.so man3/chiselbrow.3' > $(root)/share/man/man3/$$function.3 || exit 1; \
 	done
 	sed 's|@PREFIX@|$(PREFIX)|; s|@VERSION@|$(version)|' chiselbrow.pc.in > $(root)/lib/pkgconfig/chiselbrow.pc
-
-# Everything in the prover's layout but for the printed page, which it would lay one number to a line.
-page = crates/printed_heads/src/page.rt
-fmt: | build
-	@cp -p $(page) build/page.rt
-	@rt fmt; status=$$?; mv build/page.rt $(page); exit $$status
 
 # Everything that was made.
 clean:

@@ -1,4 +1,5 @@
 // The page: the register days of the heads of Guantian years 960 to 1279, ten to a line, each line with its first year.
+#[rattlefmt::skip]
 pub(crate) const HEADS: [u32; 320] = [
     /*  960 */ 2071669, 2072023, 2072407, 2072762, 2073116, 2073500, 2073854, 2074238, 2074592, 2074947,
     /*  970 */ 2075331, 2075685, 2076039, 2076423, 2076778, 2077132, 2077516, 2077870, 2078254, 2078609,
