@@ -1,9 +1,9 @@
 -- The names of days.
-use Prim.Native.Nat.{ℕ, _≤_}
+use Prim.Native.Nat.{ℕ}
 use mathlib.Core.Path.{_≡_}
 use native.Mathlib.Omega.{arith}
 use Rattle.calendar.specs.declared.data.Constants.{Constants}
-use Rattle.calendar.specs.Systems.{registerDay}
+use Rattle.calendar.specs.Systems.{IsRegisterDay}
 use Rattle.calendar.specs.SixtyDayName.{nameOfCountDay, nameOf}
 use Rattle.calendar.specs.Month.{InMonth}
 use Rattle.calendar.specs.Consistent.{Consistent}
@@ -11,8 +11,8 @@ use Rattle.calendar.proofs.Reckoned.{reckoned}
 
 module _ (c : Constants) (ok : Consistent c) where
   -- The rule for register days agrees with the name of count day 0.
-  pub names-agree : (d : ℕ) → c .anchor ≤ d → nameOf (registerDay c d) ≡ nameOfCountDay c d
-  names-agree d h = omega (arith, ok .names-agree)
+  pub names-agree : (r d : ℕ) → IsRegisterDay c r d → nameOf r ≡ nameOfCountDay c d
+  names-agree r d is = omega (arith, ok .names-agree)
 
   -- Within a month no name comes twice.
   pub name-once : (k d e : ℕ) → InMonth c k d → InMonth c k e → nameOfCountDay c d ≡ nameOfCountDay c e → d ≡ e

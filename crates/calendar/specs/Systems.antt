@@ -1,8 +1,8 @@
 -- The two systems: paper 01, "Constants", and of paper 02, Q-4, the denominator of a pentad's fraction.
 use Prim.Native.Nat.{ℕ, _+_, _-_}
 use mathlib.Core.Path.{_≡_}
-use mathlib.Core.Bool.{cond}
-use lib.Dec.{eqb}
+use mathlib.Core.Bool.{Bool, cond}
+use lib.Dec.{ltb, eqb}
 use Rattle.calendar.specs.declared.data.Constants.{Constants}
 
 -- System 1, Guantian.
@@ -19,6 +19,7 @@ guantian =
       common = 1092;
       name = 0;
       anchor = 2_169_182_929;
+      epoch = 0;
     }
 
 -- System 2, Jiyuan.
@@ -35,6 +36,7 @@ jiyuan =
       common = 1100;
       name = 15;
       anchor = 10_448_760_934;
+      epoch = 0;
     }
 
 -- The constants that a system's number picks; a request with any number but 1 and 2 is refused.
@@ -46,10 +48,17 @@ constantsOf system = cond (eqb system 1) guantian jiyuan
 abbrev pub yearsElapsed : Constants → ℕ → ℕ
 yearsElapsed c a = c .elapsed + a - c .common
 
--- Row "register day": a count day less the register's own anchor.
-abbrev pub registerDay : Constants → ℕ → ℕ
-registerDay c d = d - c .anchor
-
--- The same as a statement, which no difference cuts at 0: r is the register day of count day d.
+-- Row "register day": r is the register day of count day d. Both are counted from the earlier of the two day 0.
 abbrev pub IsRegisterDay : Constants → ℕ → ℕ → Type 0
-IsRegisterDay c r d = r + c .anchor ≡ d
+IsRegisterDay c r d = r + c .anchor ≡ d + c .epoch
+
+-- Each told from the other. A difference is cut at 0, where there is no such day.
+abbrev pub registerDay : Constants → ℕ → ℕ
+registerDay c d = d + c .epoch - c .anchor
+
+abbrev pub countDay : Constants → ℕ → ℕ
+countDay c r = r + c .anchor - c .epoch
+
+-- Register day r has no count day, since it lies before the epoch.
+abbrev pub beforeEpoch : Constants → ℕ → Bool
+beforeEpoch c r = ltb (r + c .anchor) (c .epoch)

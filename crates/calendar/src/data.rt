@@ -26,6 +26,8 @@ pub struct Constants {
     pub common: u64,
     // The sixty-day name of count day 0.
     pub name: u64,
-    // A count day less its register day.
+    // The count day of register day 0, where counting had begun by then, and the register day of count day 0, the
+    // epoch, where the register had; otherwise 0.
     pub anchor: u64,
+    pub epoch: u64,
 }

@@ -17,6 +17,7 @@ pub fn guantian() -> Constants
         common: 1092,
         name: 0,
         anchor: 2_169_182_929,
+        epoch: 0,
     }
 }
 
@@ -34,5 +35,6 @@ pub fn jiyuan() -> Constants
         common: 1100,
         name: 15,
         anchor: 10_448_760_934,
+        epoch: 0,
     }
 }

@@ -217,8 +217,7 @@ pub every-day-has-one-record : (system year d : ℕ) → InScope system year
     → OneRecord system d
 every-day-has-one-record system year d i y =
     let r = KindOne.registered system year d i y in
-    let c = constantsOf system in
-    let x = KindOne.dated system year (r .0) i (subst (DayOfYear c (yearsElapsed c year)) (sym (r .1)) y) in
+    let x = KindOne.dated system year (r .0) d i (r .1) y in
     record {
       day = r .0;
       is-day = r .1;

@@ -6,6 +6,7 @@ use mathlib.Core.List.{List}
 use native.Mathlib.Omega.{arith}
 use Rattle.calendar.specs.declared.data.Constants.{Constants}
 use Rattle.calendar.specs.Inside.{Inside}
+use Rattle.calendar.specs.Systems.{IsRegisterDay}
 use Rattle.calendar.specs.SixtyDayName.{nameOf}
 use Rattle.calendar.specs.Month.{monthHead, InMonth, monthLength, dayOfMonth}
 use Rattle.calendar.specs.Year.{Span, yearLength, dayOfOrdinal, MonthNumbered}
@@ -115,7 +116,7 @@ module _ (s : List ℕ) where
   pub day-not-placed : kindOf s ≡ 1 → (k : ℕ) → CitedMonth s k → (Inside 1 (monthLength c k) (dayField s) → ⊥) → NotPlaced s
   day-not-placed e k n out (Placed.day-in-month f l o i) =
       out (subst (λ x. Inside 1 (monthLength c x) (dayField s)) (month-once s l k o n) i)
-  day-not-placed e k n out (Placed.name-in-month f l r o i g) = omega arith
+  day-not-placed e k n out (Placed.name-in-month f l d r o i is g) = omega arith
   day-not-placed e k n out (Placed.ordinal-in-year f y i) = omega arith
   day-not-placed e k n out (Placed.day-in-scope f d) = omega arith
 
@@ -139,7 +140,7 @@ module _ (s : List ℕ) where
       (λ e into.
       let inside = subst (λ x. Inside 1 x (dayField s)) l into in
       let j = accept (m .head .0 + dayField s - 1) (systemOf s) (yearField s) (monthField s) (leapField s) (dayField s) in
-      let day-is : j .day .0 + c .anchor ≡ dayOfMonth c k (dayField s) = omega (arith, into) in
+      let day-is : IsRegisterDay c (j .day .0) (dayOfMonth c k (dayField s)) = omega (arith, into) in
       subst (Judged (contentRows s) s) (day-right _ _ _ _ _ m refl z e)
       (Judged.accepted refl refl (place-rows i w (inr (λ v. v (Placed.day-in-month kind k n inside), refl)))
       (record {
@@ -154,11 +155,11 @@ module _ (s : List ℕ) where
 
   -- Kind 2.
   name-not-placed : kindOf s ≡ 2 → (k : ℕ) → CitedMonth s k
-      → ((r : ℕ) → InMonth c k (r + c .anchor) → nameOf r ≡ nameField s → ⊥)
+      → ((d r : ℕ) → InMonth c k d → IsRegisterDay c r d → nameOf r ≡ nameField s → ⊥)
       → NotPlaced s
   name-not-placed e k n out (Placed.day-in-month f l o i) = omega arith
-  name-not-placed e k n out (Placed.name-in-month f l r o i g) =
-      out r (subst (λ x. InMonth c x (r + c .anchor)) (month-once s l k o n) i) g
+  name-not-placed e k n out (Placed.name-in-month f l d r o i is g) =
+      out d r (subst (λ x. InMonth c x d) (month-once s l k o n) i) is g
   name-not-placed e k n out (Placed.ordinal-in-year f y i) = omega arith
   name-not-placed e k n out (Placed.day-in-scope f d) = omega arith
 
@@ -181,16 +182,17 @@ module _ (s : List ℕ) where
       by-order 59 (nameField s)
       (λ far.
       plainly-refused DAY (omega arith) (sym (no-name _ _ _ _ _ m refl z far))
-      (place-rows i w (inl (refl, name-not-placed kind k n (λ r p e. omega arith)))))
+      (place-rows i w (inl (refl, name-not-placed kind k n (λ d r p is e. omega arith)))))
       (λ near.
       by-order days (m .length)
       (λ b.
       let j = accept (head + days) (systemOf s) (yearField s) (monthField s) (leapField s) (days + 1) in
-      let day-is : j .day .0 + c .anchor ≡ dayOfMonth c k (days + 1) = omega arith in
-      let in-month : InMonth c k (j .day .0 + c .anchor) = (omega arith, omega arith) in
+      let d = dayOfMonth c k (days + 1) in
+      let day-is : IsRegisterDay c (j .day .0) d = omega arith in
+      let in-month : InMonth c k d = (omega arith, omega arith) in
       let is-named : nameOf (j .day .0) ≡ nameField s = omega arith in
       subst (Judged (contentRows s) s) (name-right _ _ _ _ _ m refl z near b)
-      (Judged.accepted refl refl (place-rows i w (inr (λ v. v (Placed.name-in-month kind k (j .day .0) n in-month is-named), refl)))
+      (Judged.accepted refl refl (place-rows i w (inr (λ v. v (Placed.name-in-month kind k d (j .day .0) n in-month day-is is-named), refl)))
       (record {
         year = yearField s;
         month = monthField s;
@@ -204,11 +206,11 @@ module _ (s : List ℕ) where
           day-is = day-is;
         };
         stored = refl;
-        names = NamesDay.by-name kind k n in-month is-named;
+        names = NamesDay.by-name kind k d n in-month day-is is-named;
       })))
       (λ b.
       plainly-refused DAY (omega arith) (sym (name-past _ _ _ _ _ m refl z near b))
-      (place-rows i w (inl (refl, name-not-placed kind k n (λ r p e. omega (arith, p, e))))))))
+      (place-rows i w (inl (refl, name-not-placed kind k n (λ d r p is e. omega (arith, p, is, e))))))))
 
   -- A day that is named and has a date is kept.
   kept-by-date : (r : ℕ) (d : Date) → NamesDay s r → DateFound (systemOf s) r d
@@ -224,7 +226,7 @@ module _ (s : List ℕ) where
           in-scope = f .in-scope;
           numbered = f .numbered;
           placed = record { at-least = omega arith; at-most = omega arith };
-          day-is = omega arith;
+          day-is = omega (arith, f .day-in-scope .is-day);
         };
         stored = refl;
         names = names;
@@ -233,7 +235,7 @@ module _ (s : List ℕ) where
   -- Kind 4.
   day-out-of-scope : kindOf s ≡ 4 → (DayInScope (systemOf s) (registerDayField s) → ⊥) → NotPlaced s
   day-out-of-scope e out (Placed.day-in-month f l o i) = omega arith
-  day-out-of-scope e out (Placed.name-in-month f l r o i g) = omega arith
+  day-out-of-scope e out (Placed.name-in-month f l d r o i is g) = omega arith
   day-out-of-scope e out (Placed.ordinal-in-year f y i) = omega arith
   day-out-of-scope e out (Placed.day-in-scope f d) = out d
 
@@ -261,7 +263,7 @@ module _ (s : List ℕ) where
   -- Kind 3.
   ordinal-not-placed : kindOf s ≡ 3 → (y : Span c (elapsedIn s)) → (Inside 1 (yearLength y) (ordinalField s) → ⊥) → NotPlaced s
   ordinal-not-placed e y out (Placed.day-in-month f l o i) = omega arith
-  ordinal-not-placed e y out (Placed.name-in-month f l r o i g) = omega arith
+  ordinal-not-placed e y out (Placed.name-in-month f l d r o i is g) = omega arith
   ordinal-not-placed e y out (Placed.ordinal-in-year f x i) =
       let ok = consistent (systemOf s) in
       let head = ap (monthHead c) (span-first c ok x ∙ sym (span-first c ok y)) in
@@ -302,10 +304,11 @@ module _ (s : List ℕ) where
       (λ e into.
       let inside = subst (λ x. Inside 1 x (ordinalField s)) l into in
       let r = y .head .0 + ordinalField s - 1 in
-      let day-is : r + c .anchor ≡ dayOfOrdinal span-of (ordinalField s) = omega (arith, into) in
+      let day-is : IsRegisterDay c r (dayOfOrdinal span-of (ordinalField s)) = omega (arith, into) in
       subst (Judged (contentRows s) s) (ordinal-right _ _ _ y is z e)
       (on-ordinal-judged r kind (NamesDay.by-ordinal kind span-of day-is)
-      (year-day-in-scope (systemOf s) (yearField s) r i span-of (omega (arith, into)) (omega (arith, inside)))
+      (year-day-in-scope (systemOf s) (yearField s) r (dayOfOrdinal span-of (ordinalField s)) i day-is
+      (record { span = span-of; from = omega (arith, into); before = omega (arith, inside) }))
       _ refl (date-outcome (systemOf s) r)
       (place-rows i (no-month (omega arith)) (inr (λ v. v (Placed.ordinal-in-year kind span-of inside), refl)))))
 

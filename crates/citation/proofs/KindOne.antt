@@ -1,10 +1,10 @@
 -- Citations of kind 1: one for each day of a system, and every day has one.
-use Prim.Native.Nat.{ℕ, _+_, _/_, _%_}
+use Prim.Native.Nat.{ℕ, _/_, _%_}
 use mathlib.Core.Path.{_≡_, ap, sym, _∙_}
 use mathlib.Core.List.{List, [], _∷_}
 use native.Mathlib.Omega.{arith}
 use lib.ListN.{length}
-use Rattle.calendar.specs.Systems.{constantsOf, yearsElapsed, registerDay}
+use Rattle.calendar.specs.Systems.{constantsOf, yearsElapsed, IsRegisterDay, registerDay}
 use Rattle.calendar.specs.Month.{monthHead, monthLength}
 use Rattle.calendar.specs.Year.{DayOfYear}
 use Rattle.reckoning.specs.Scope.{InScope}
@@ -86,13 +86,13 @@ module _ (b : List ℕ) (a : Accepted b) (kind : kindOf b ≡ 1) where
             (λ f into. into);
         day-is = d;
       }
-  on-its-date r (NamesDay.by-name e k m i n) = absurd (omega arith)
+  on-its-date r (NamesDay.by-name e k d m i p n) = absurd (omega arith)
   on-its-date r (NamesDay.by-ordinal e y d) = absurd (omega arith)
   on-its-date r (NamesDay.by-register-day e d) = absurd (omega arith)
 
 -- Every count day of a year in scope has a register day,
 pub registered : (system year d : ℕ) → InScope system year → DayOfYear (constantsOf system) (yearsElapsed (constantsOf system) year) d
-    → (r : ℕ) × (r + constantsOf system .anchor ≡ d)
+    → (r : ℕ) × IsRegisterDay (constantsOf system) r d
 registered system year d i y =
     let c = constantsOf system in
     let n = yearsElapsed c year in
@@ -100,14 +100,14 @@ registered system year d i y =
     (registerDay c d, omega (arith, y .from, ap (monthHead c) (span-first c (consistent system) (y .span))))
 
 -- and a date.
-pub dated : (system year r : ℕ) → InScope system year
-    → DayOfYear (constantsOf system) (yearsElapsed (constantsOf system) year) (r + constantsOf system .anchor)
+pub dated : (system year r d : ℕ) → InScope system year → IsRegisterDay (constantsOf system) r d
+    → DayOfYear (constantsOf system) (yearsElapsed (constantsOf system) year) d
     → Dated system r
-dated system year r i d = go (dateOf system r) (date-outcome system r)
+dated system year r d i is y = go (dateOf system r) (date-outcome system r)
   where
     go : (v : Date) → DateOutcome system r v → Dated system r
     go v (DateOutcome.system-refused w e) = absurd (w (i .system-inside))
-    go v (DateOutcome.day-refused s w e) = absurd (w (year-day-in-scope system year r i (d .span) (d .from) (d .before)))
+    go v (DateOutcome.day-refused s w e) = absurd (w (year-day-in-scope system year r d i is y))
     go v (DateOutcome.found f) =
         record {
           year = v .year;
@@ -119,6 +119,6 @@ dated system year r i d = go (dateOf system r) (date-outcome system r)
             in-scope = f .in-scope;
             numbered = f .numbered;
             placed = record { at-least = omega arith; at-most = omega arith };
-            day-is = omega arith;
+            day-is = omega (arith, f .day-in-scope .is-day);
           };
         }

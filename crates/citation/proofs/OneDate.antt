@@ -5,7 +5,7 @@ use native.Mathlib.Omega.{arith}
 use Rattle.calendar.specs.declared.data.Constants.{Constants}
 use Rattle.calendar.specs.Consistent.{Consistent}
 use Rattle.calendar.specs.Calendar.{Calendar}
-use Rattle.calendar.specs.Systems.{constantsOf, yearsElapsed}
+use Rattle.calendar.specs.Systems.{constantsOf, yearsElapsed, countDay}
 use Rattle.calendar.specs.Month.{monthHead, InMonth}
 use Rattle.calendar.specs.ClosedForms.{monthOfDay, yearOfMonth, monthNumber, leapMark}
 use Rattle.calendar.proofs.EachSystem.{consistent}
@@ -28,16 +28,16 @@ module _ (system : ℕ) where
 
   -- The day's own month, and what it says of the date.
   pub record Settled (r year month leap day : ℕ) : Type 0 where
-    pub year-is : yearsElapsed c year ≡ yearOfMonth c (monthOfDay c (r + c .anchor))
-    pub month-is : month ≡ monthNumber c (monthOfDay c (r + c .anchor))
-    pub leap-is : leap ≡ leapMark c (monthOfDay c (r + c .anchor))
-    pub day-is : day ≡ r + c .anchor - monthHead c (monthOfDay c (r + c .anchor)) + 1
+    pub year-is : yearsElapsed c year ≡ yearOfMonth c (monthOfDay c (countDay c r))
+    pub month-is : month ≡ monthNumber c (monthOfDay c (countDay c r))
+    pub leap-is : leap ≡ leapMark c (monthOfDay c (countDay c r))
+    pub day-is : day ≡ countDay c r - monthHead c (monthOfDay c (countDay c r)) + 1
 
   settled : (r year month leap day : ℕ) → OnDate system r year month leap day → Settled r year month leap day
   settled r year month leap day d =
       let k = d .k in
-      let in-month : InMonth c k (r + c .anchor) = (omega (arith, d .placed, d .day-is), omega (arith, d .placed, d .day-is)) in
-      let e : k ≡ monthOfDay c (r + c .anchor) = month-unique K k (r + c .anchor) (in-month .0) (in-month .1) in
+      let in-month : InMonth c k (countDay c r) = (omega (arith, d .placed, d .day-is), omega (arith, d .placed, d .day-is)) in
+      let e : k ≡ monthOfDay c (countDay c r) = month-unique K k (countDay c r) (in-month .0) (in-month .1) in
       record {
         year-is = year-unique K (yearsElapsed c year) k (within c ok (yearsElapsed c year) k (d .numbered .in-year)) ∙ ap (yearOfMonth c) e;
         month-is = number-unique c ok (d .numbered .bears) ∙ ap (monthNumber c) e;

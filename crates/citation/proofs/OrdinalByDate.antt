@@ -9,7 +9,7 @@ use mir.Val.{Fits}
 use mathlib.Core.List.{List}
 use Rattle.calendar.specs.declared.data.Constants.{Constants}
 use Rattle.calendar.specs.Inside.{Inside}
-use Rattle.calendar.specs.Systems.{constantsOf, yearsElapsed}
+use Rattle.calendar.specs.Systems.{constantsOf, yearsElapsed, IsRegisterDay, countDay}
 use Rattle.calendar.specs.Month.{monthHead}
 use Rattle.calendar.specs.Year.{DayOfYear}
 use Rattle.calendar.specs.Consistent.{Consistent}
@@ -69,8 +69,11 @@ module _ (system year ordinal : ℕ) {y : Days} (e : y ≡ daysOf system year) (
     least : 1 ≤ ordinal
     least = by-order 0 ordinal (λ h. omega arith) (λ h. absurd (some (omega arith)))
 
+    is-day : IsRegisterDay c r (countDay c r)
+    is-day = omega (arith, year-found .head-is, least)
+
     -- Up to the year's length it is a day of the year,
-    of-year : ordinal ≤ y .length → DayOfYear c (yearsElapsed c year) (r + c .anchor)
+    of-year : ordinal ≤ y .length → DayOfYear c (yearsElapsed c year) (countDay c r)
     of-year h =
         record {
           span = year-found .span;
@@ -79,15 +82,17 @@ module _ (system year ordinal : ℕ) {y : Days} (e : y ≡ daysOf system year) (
         }
 
     -- and past it, it is not.
-    within-length : DayOfYear c (yearsElapsed c year) (r + c .anchor) → ordinal ≤ y .length
+    within-length : DayOfYear c (yearsElapsed c year) (countDay c r) → ordinal ≤ y .length
     within-length day =
         let next = ap (monthHead c) (span-next c ok (day .span) ∙ sym (span-next c ok (year-found .span))) in
         omega (arith, day .before, year-found .head-is, year-found .length-is, least)
 
     -- A day that has a date is one of the date's year.
-    of-its-date : DateFound system r d → DayOfYear c (yearsElapsed c (d .year)) (r + c .anchor)
+    of-its-date : DateFound system r d → DayOfYear c (yearsElapsed c (d .year)) (countDay c r)
     of-its-date f =
-        months-stay-within c ok (yearsElapsed c (d .year)) (f .k) (r + c .anchor) (f .numbered .in-year) (f .in-month)
+        let here : f .day-in-scope .day ≡ countDay c r = omega (arith, f .day-in-scope .is-day) in
+        subst (DayOfYear c (yearsElapsed c (d .year))) here
+        (months-stay-within c ok (yearsElapsed c (d .year)) (f .k) (f .day-in-scope .day) (f .numbered .in-year) (f .in-month))
 
     within : ordinal ≤ y .length → judgeDated system r year ≡ judgeOrdinal system year ordinal
     within h = go (date-outcome system r)
@@ -98,10 +103,9 @@ module _ (system year ordinal : ℕ) {y : Days} (e : y ≡ daysOf system year) (
         go : DateOutcome system r d → judgeDated system r year ≡ judgeOrdinal system year ordinal
         go (DateOutcome.system-refused w f) = absurd (w (year-found .in-scope .system-inside))
         go (DateOutcome.day-refused i w f) =
-            let day = of-year h in
-            absurd (w (year-day-in-scope system year r (year-found .in-scope) (day .span) (day .from) (day .before)))
+            absurd (w (year-day-in-scope system year r (countDay c r) (year-found .in-scope) is-day (of-year h)))
         go (DateOutcome.found f) =
-            let one = day-in-one-year c ok (r + c .anchor) in
+            let one = day-in-one-year c ok (countDay c r) in
             let same-count = one .only (yearsElapsed c (d .year)) (of-its-date f) ∙ sym (one .only (yearsElapsed c year) (of-year h)) in
             let same : d .year ≡ year = omega (arith, ok .epoch-before, f .in-scope .year-inside, year-found .in-scope .year-inside) in
             sym (dated-right system r year d refl (f .not-refused) (simp (eq-eqb (d .year) year same, and-false)))
@@ -121,7 +125,7 @@ module _ (system year ordinal : ℕ) {y : Days} (e : y ≡ daysOf system year) (
             sym (dated-refused system r year d refl (λ none. omega arith)) ∙ ap refuse number ∙ wrong
         go (DateOutcome.found f) =
             let other : d .year ≡ year → ⊥ =
-            λ same. omega (arith, within-length (subst (λ x. DayOfYear c (yearsElapsed c x) (r + c .anchor)) same (of-its-date f)))
+            λ same. omega (arith, within-length (subst (λ x. DayOfYear c (yearsElapsed c x) (countDay c r)) same (of-its-date f)))
             in
             let asked : year ≡ 0 → ⊥ = λ none. omega (arith, year-found .in-scope .year-inside) in
             sym (dated-elsewhere system r year d refl (f .not-refused) (simp (ne-eqb year 0 asked, ne-eqb (d .year) year other)))

@@ -1,10 +1,11 @@
 -- Numbered refusals: paper 01's table with the row of paper 02, Q-3, a definition a row, in its order.
-use Prim.Native.Nat.{ℕ, _+_, _≤_, _<_}
+use Prim.Native.Nat.{ℕ, _≤_, _<_}
 use mathlib.Core.Path.{_≡_}
 use mathlib.Core.Logic.{_⊎_}
 use mathlib.Core.List.{List, [], _∷_, _++_}
 use lib.ListN.{length}
 use Rattle.calendar.specs.Inside.{Inside}
+use Rattle.calendar.specs.Systems.{IsRegisterDay}
 use Rattle.calendar.specs.SixtyDayName.{nameOf}
 use Rattle.calendar.specs.Month.{InMonth, monthLength}
 use Rattle.calendar.specs.Year.{Span, yearLength, LeapNumber}
@@ -48,9 +49,10 @@ WrongLeap s = (kindOf s ≤ 2) × NotLeap (constantsIn s) (elapsedIn s) (monthFi
 pub data Placed (s : List ℕ) : Type 0 where
   day-in-month : kindOf s ≡ 1 → (k : ℕ) → CitedMonth s k → Inside 1 (monthLength (constantsIn s) k) (dayField s) → Placed s
   name-in-month : kindOf s ≡ 2
-      → (k r : ℕ)
+      → (k d r : ℕ)
       → CitedMonth s k
-      → InMonth (constantsIn s) k (r + constantsIn s .anchor)
+      → InMonth (constantsIn s) k d
+      → IsRegisterDay (constantsIn s) r d
       → nameOf r ≡ nameField s
       → Placed s
   ordinal-in-year : kindOf s ≡ 3 → (y : Span (constantsIn s) (elapsedIn s)) → Inside 1 (yearLength y) (ordinalField s) → Placed s

@@ -1,11 +1,11 @@
 -- The day that a citation names, by the reckoning: paper 01, "The words of demand 3". A citation, the customer's own
--- term, is a record that names a day. A register day is a count day less the system's anchor.
-use Prim.Native.Nat.{ℕ, _+_}
+-- term, is a record that names a day.
+use Prim.Native.Nat.{ℕ}
 use mathlib.Core.Path.{_≡_}
 use mathlib.Core.List.{List}
 use Rattle.calendar.specs.declared.data.Constants.{Constants}
 use Rattle.calendar.specs.Inside.{Inside}
-use Rattle.calendar.specs.Systems.{constantsOf, yearsElapsed}
+use Rattle.calendar.specs.Systems.{constantsOf, yearsElapsed, IsRegisterDay}
 use Rattle.calendar.specs.SixtyDayName.{nameOf}
 use Rattle.calendar.specs.Month.{InMonth, monthLength, dayOfMonth}
 use Rattle.calendar.specs.Year.{Span, MonthNumbered, dayOfOrdinal}
@@ -30,19 +30,20 @@ pub data NamesDay (s : List ℕ) (r : ℕ) : Type 0 where
   by-day : kindOf s ≡ 1
       → (k : ℕ)
       → CitedMonth s k
-      → r + constantsIn s .anchor ≡ dayOfMonth (constantsIn s) k (dayField s)
+      → IsRegisterDay (constantsIn s) r (dayOfMonth (constantsIn s) k (dayField s))
       → NamesDay s r
   -- kind 2, as the one in the month whose name it is
   by-name : kindOf s ≡ 2
-      → (k : ℕ)
+      → (k d : ℕ)
       → CitedMonth s k
-      → InMonth (constantsIn s) k (r + constantsIn s .anchor)
+      → InMonth (constantsIn s) k d
+      → IsRegisterDay (constantsIn s) r d
       → nameOf r ≡ nameField s
       → NamesDay s r
   -- kind 3, by its place in the year
   by-ordinal : kindOf s ≡ 3
       → (y : Span (constantsIn s) (elapsedIn s))
-      → r + constantsIn s .anchor ≡ dayOfOrdinal y (ordinalField s)
+      → IsRegisterDay (constantsIn s) r (dayOfOrdinal y (ordinalField s))
       → NamesDay s r
   -- kind 4, outright
   by-register-day : kindOf s ≡ 4 → r ≡ registerDayField s → NamesDay s r
@@ -53,7 +54,7 @@ pub record OnDate (system r year month leap day : ℕ) : Type 0 where
   pub in-scope : InScope system year
   pub numbered : MonthNumbered (constantsOf system) (yearsElapsed (constantsOf system) year) month leap k
   pub placed : Inside 1 (monthLength (constantsOf system) k) day
-  pub day-is : r + constantsOf system .anchor ≡ dayOfMonth (constantsOf system) k day
+  pub day-is : IsRegisterDay (constantsOf system) r (dayOfMonth (constantsOf system) k day)
 
 -- It has a date there.
 pub record Dated (system r : ℕ) : Type 0 where

@@ -1,12 +1,12 @@
 -- What the demands ask for, in words: what a storing leaves, the one record of a day, and how months tile a year.
-use Prim.Native.Nat.{ℕ, _+_, _≤_}
+use Prim.Native.Nat.{ℕ, _≤_}
 use mathlib.Core.Path.{_≡_}
 use mathlib.Core.Logic.{_⊎_}
 use mathlib.Core.List.{List}
 use lib.ListN.{length, take}
 use Rattle.calendar.specs.declared.data.Constants.{Constants}
 use Rattle.calendar.specs.ExactlyOne.{ExactlyOne}
-use Rattle.calendar.specs.Systems.{constantsOf}
+use Rattle.calendar.specs.Systems.{constantsOf, IsRegisterDay}
 use Rattle.calendar.specs.Month.{InMonth, monthLength, HoldsSome, Lacks}
 use Rattle.calendar.specs.Year.{Span, monthCount, InYear, DayOfYear}
 use Rattle.citation.specs.Record.{Bytes, kindOf, systemOf}
@@ -22,7 +22,7 @@ stored s before = take 10 (storedInto s before)
 -- accepted citation names the day is stored as it; and no other citation of kind 1 names the day in that system.
 pub record OneRecord (system d : ℕ) : Type 0 where
   pub day : ℕ
-  pub is-day : day + constantsOf system .anchor ≡ d
+  pub is-day : IsRegisterDay (constantsOf system) day d
   pub it : List ℕ
   pub bytes : Bytes it
   pub accepted : Accepted it

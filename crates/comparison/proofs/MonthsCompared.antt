@@ -54,7 +54,7 @@ module _ (system year : ℕ) (s : InScope system year) where
         head = headIn months i;
         bears = subst (λ k. Bears c k (numberIn months i)) e (lists .number i h);
         marked = subst (λ k. Marked c k (leapIn months i)) e (lists .leap i h);
-        head-is = lists .head i h ∙ ap (monthHead c) e;
+        head-is = omega (arith, lists .head i h, ap (monthHead c) e);
       }
 
   pub record Agrees (place : ℕ) (m : MonthAt system year place) : Type 0 where

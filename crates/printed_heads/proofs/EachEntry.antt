@@ -15,7 +15,7 @@ use Rattle.printed_heads.proofs.Table.{all, each}
 
 -- The test: r is the register day of the head of a Guantian year, by the closed form.
 abbrev isHead : ℕ → ℕ → Bool
-isHead year r = eqb (r + guantian .anchor) (headOfYear guantian (yearsElapsed guantian year))
+isHead year r = eqb (r + guantian .anchor) (headOfYear guantian (yearsElapsed guantian year) + guantian .epoch)
 
 -- A page that passes the test as a whole has at i the head of year `firstYear` + i, by the worded rule.
 pub each-entry : (heads : List ℕ) (i : ℕ) → all isHead firstYear heads ≡ true → i < length heads

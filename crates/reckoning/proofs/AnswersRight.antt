@@ -6,7 +6,6 @@ use native.Mathlib.Omega.{arith}
 use lib.ListN.{getD-replicate}
 use Rattle.calendar.specs.declared.data.Constants.{Constants}
 use Rattle.calendar.specs.Systems.{constantsOf, yearsElapsed, registerDay}
-use Rattle.calendar.specs.SixtyDayName.{nameOf}
 use Rattle.calendar.specs.Steps.{moment, dayOf, partsOf, unitsOf}
 use Rattle.calendar.specs.ClosedForms.{headOfYear}
 use Rattle.calendar.proofs.EachSystem.{consistent}
@@ -51,10 +50,11 @@ module _ (system year : ℕ) (s : InScope system year) where
   told-step s u i f =
       let m = moment c s u n i in
       let t = told c u m (consistent system .solar-some) (f .units-some) in
-      let exact : registerDay c (dayOf c u m) + c .anchor ≡ dayOf c u m = omega (arith, f .day) in
       record {
         accepted = refl;
-        moment = ap (λ d. (d * c .solar + partsOf c u m) * u + unitsOf u m) exact ∙ sym (t .whole);
+        day = dayOf c u m;
+        is-day = omega (arith, f .day);
+        moment = sym (t .whole);
         parts-below = t .parts-below;
         units-below = t .units-below;
       }
@@ -107,9 +107,7 @@ module _ (system year : ℕ) (s : InScope system year) where
         span = span c (consistent system) n;
         size = filled-length _ _ _;
         name = λ i h.
-            let same : head + i ≡ registerDay c (headOfYear c n + i) = omega arith in
             filled-below (nameAt head) noNames 0 long i (omega arith) most
-            ∙ ap nameOf same
-            ∙ names-agree c (consistent system) (headOfYear c n + i) (omega arith);
+            ∙ names-agree c (consistent system) (head + i) (headOfYear c n + i) (omega arith);
         past = λ i h l. filled-past (nameAt head) noNames 0 long i (omega arith) ∙ getD-replicate 384 i 255 0 l;
       })

@@ -6,6 +6,7 @@ use native.Mathlib.Omega.{arith}
 use mir.Syntax.{w8}
 use mir.Val.{Fits}
 use Rattle.calendar.specs.declared.data.Constants.{Constants}
+use Rattle.calendar.specs.Systems.{countDay, beforeEpoch}
 use Rattle.calendar.specs.Month.{monthHead, numberOf}
 use Rattle.calendar.specs.Calendar.{Calendar}
 use Rattle.calendar.specs.ClosedForms.{monthOfDay, headOfYear, yearOfMonth}
@@ -17,31 +18,43 @@ use Rattle.reckoning.specs.declared.month_spans.LastQi.{LastQi}
 use Rattle.reckoning.specs.MonthSpans.{monthSpan, lastQi}
 use Rattle.reckoning.specs.WordBounds.{ConstantsFit}
 use Rattle.reckoning.specs.CommonYears.{commonYear, outOfScope}
-use Rattle.reckoning.specs.Requests.{noDate, dateIn}
+use Rattle.reckoning.specs.Requests.{dateAt, noDate, dateIn}
 use Rattle.reckoning.specs.RefusalNumbers.{DAY}
-use Rattle.reckoning.proofs.YearOfDay.{day-outside, day-inside}
+use Rattle.reckoning.proofs.YearOfDay.{before-years, is-its-day, day-outside, day-inside}
 
--- The request, by the day's month and its last middle qi.
-module _ {c : Constants} (fit : ConstantsFit c) (r : ℕ) {m : MonthSpan} {last : LastQi}
-    (month : m ≡ monthSpan c (monthOfDay c (r + c .anchor)))
+-- A day before the epoch.
+pub date-before : (c : Constants) (r : ℕ) {early : Bool} {v : Date} → early ≡ beforeEpoch c r → v ≡ noDate DAY
+    → early ≡ true
+    → v ≡ dateIn c r
+unfolding dateIn
+date-before c r test e before = e ∙ simp (before-years (headOfYear c) c r (sym test ∙ before))
+
+-- The request for one from the epoch on, by the day's month and its last middle qi.
+module _ {c : Constants} (fit : ConstantsFit c) (r : ℕ) {early : Bool} (tested : early ≡ beforeEpoch c r)
+    (passed : early ≡ false)
+    {d : ℕ}
+    (day : d ≡ countDay c r)
+    {m : MonthSpan}
+    {last : LastQi}
+    (month : m ≡ monthSpan c (monthOfDay c d))
     (qi : last ≡ lastQi c (m .month))
   where
     abbrev K : Calendar
     K = reckoned c (fit .consistent)
 
     abbrev k : ℕ
-    k = monthOfDay c (r + c .anchor)
+    k = monthOfDay c d
 
     -- the day's place in its month
     head-is : m .head ≡ monthHead c k
     head-is = ap (λ x. x .head) month
 
-    pub place-from : m .head ≤ r + c .anchor
-    place-from = omega (arith, head-is, K .day-from (r + c .anchor))
+    pub place-from : m .head ≤ d
+    place-from = omega (arith, head-is, K .day-from d)
 
-    pub place-fits : Fits w8 (r + c .anchor - m .head + 1)
+    pub place-fits : Fits w8 (d - m .head + 1)
     place-fits =
-        omega (arith, head-is, K .day-before (r + c .anchor), K .month-most k)
+        omega (arith, head-is, K .day-before d, K .month-most k)
 
     last-is : last ≡ lastQi c k
     last-is = qi ∙ ap (λ x. lastQi c (x .month)) month
@@ -58,14 +71,13 @@ module _ {c : Constants} (fit : ConstantsFit c) (r : ℕ) {m : MonthSpan} {last 
       unfolding dateIn
       date-outside e out =
           e
-          ∙ simp (day-outside c (fit .consistent .epoch-before) (headOfYear c) r (yearOfMonth c k)
-          (λ m. year-from K m (r + c .anchor))
-          (λ m. year-before K m (r + c .anchor))
+          ∙ simp (day-outside c (fit .consistent .epoch-before) (headOfYear c) r d (yearOfMonth c k) (is-its-day c r (sym tested ∙ passed) day)
+          (λ m. year-from K m d)
+          (λ m. year-before K m d)
           (sym scope-is ∙ out))
 
       pub date-inside : {number year : ℕ} → number ≡ numberOf (last .qi % 12) → year ≡ commonYear c (last .qi / 12) → b ≡ false
-          → record { refusal = 0; year = year; month = number; leap = last .leap; day = r + c .anchor - m .head + 1 }
-          ≡ dateIn c r
+          → record { refusal = 0; year = year; month = number; leap = last .leap; day = d - m .head + 1 } ≡ dateIn c r
       unfolding dateIn
       date-inside number-is year-here-is inside =
           let year-here = year-here-is ∙ ap (commonYear c) year-is in
@@ -76,9 +88,10 @@ module _ {c : Constants} (fit : ConstantsFit c) (r : ℕ) {m : MonthSpan} {last 
             year = year-here j;
             month = number-here j;
             leap = last-is j .leap;
-            day = r + c .anchor - head-is j + 1;
+            day = d - head-is j + 1;
           })
-          ∙ simp (day-inside c (fit .consistent .epoch-before) (headOfYear c) r (yearOfMonth c k)
-          (λ m. year-from K m (r + c .anchor))
-          (λ m. year-before K m (r + c .anchor))
+          ∙ ap (dateAt c) day
+          ∙ simp (day-inside c (fit .consistent .epoch-before) (headOfYear c) r d (yearOfMonth c k) (is-its-day c r (sym tested ∙ passed) day)
+          (λ m. year-from K m d)
+          (λ m. year-before K m d)
           (sym scope-is ∙ inside))

@@ -1,11 +1,13 @@
 -- The heads of years, printed and reckoned.
 use Prim.Native.Nat.{ℕ, _+_, _-_, _≤_}
 use mathlib.Core.Path.{_≡_, sym, ap, ap₂, subst, subst₂, _∙_}
+use mathlib.Core.Bool.{false}
 use native.Mathlib.Omega.{arith}
 use lib.Dec.{eqb}
+use borrow.Author.Tests.{le-ltb}
 use Rattle.calendar.specs.declared.data.Constants.{Constants}
 use Rattle.calendar.specs.declared.data.RegisterDay.{RegisterDay}
-use Rattle.calendar.specs.Systems.{yearsElapsed, registerDay}
+use Rattle.calendar.specs.Systems.{yearsElapsed, registerDay, countDay, beforeEpoch}
 use Rattle.calendar.specs.Month.{monthHead}
 use Rattle.calendar.specs.Consistent.{Consistent}
 use Rattle.calendar.specs.ClosedForms.{monthOfDay, firstMonth, headOfYear, registerHead}
@@ -31,9 +33,12 @@ pub is-its-months-head : {c : Constants} (n : ℕ) {d : ℕ} → Consistent c �
 is-its-months-head {c} n ok e = ap (λ d. monthHead c (monthOfDay c d)) e ∙ ap (monthHead c) (month-of-head c ok n) ∙ sym e
 
 -- The head's count day is told from its register day.
-pub count-day : {c : Constants} {n : ℕ} {r : RegisterDay} → HeadInRegister c n → r ≡ registerHead c n
-    → r .0 + c .anchor ≡ headOfYear c n
-count-day {c} {n} {r} h e = omega (arith, ap (λ x. x .0) e, h .head)
+module _ {c : Constants} {n : ℕ} {r : RegisterDay} (h : HeadInRegister c n) (e : r ≡ registerHead c n) where
+  pub from-epoch : beforeEpoch c (r .0) ≡ false
+  from-epoch = le-ltb (r .0 + c .anchor) (c .epoch) (omega (arith, ap (λ x. x .0) e, h .head))
+
+  pub count-day : countDay c (r .0) ≡ headOfYear c n
+  count-day = omega (arith, ap (λ x. x .0) e, h .head)
 
 -- A year within the register has such a head, and so has the year after.
 module _ {c : Constants} {n : ℕ} (y : YearInRegister c n) where

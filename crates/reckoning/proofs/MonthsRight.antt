@@ -5,7 +5,7 @@ use mathlib.Core.Logic.{inl, inr, ⊎-elim}
 use native.Mathlib.Omega.{arith}
 use Rattle.calendar.specs.declared.data.Constants.{Constants}
 use Rattle.calendar.specs.ExactlyOne.{ExactlyOne}
-use Rattle.calendar.specs.Systems.{constantsOf, yearsElapsed, registerDay}
+use Rattle.calendar.specs.Systems.{constantsOf, yearsElapsed, IsRegisterDay, registerDay, countDay}
 use Rattle.calendar.specs.Month.{monthHead, InMonth, Lacks, Bears, Marked}
 use Rattle.calendar.specs.Year.{InYear, DayOfYear}
 use Rattle.calendar.specs.Consistent.{Consistent}
@@ -31,13 +31,13 @@ use Rattle.reckoning.proofs.AnswerUnless.{answered}
 use Rattle.reckoning.proofs.RefusedRequests.{year-blank}
 use Rattle.reckoning.proofs.RegisterLaws.{months-in-register}
 
-register-back : (c : Constants) (d : ℕ) → InRegister c d → registerDay c d + c .anchor ≡ d
+register-back : (c : Constants) (d : ℕ) → InRegister c d → IsRegisterDay c (registerDay c d) d
 register-back c d h = omega arith
 
 -- Year n within the register.
 module _ (c : Constants) (n : ℕ) (r : YearInRegister c n) where
   head-at : (i : ℕ) → i ≤ firstMonth c (n + 1) - firstMonth c n
-      → headIn (yearIn c n) i + c .anchor ≡ monthHead c (firstMonth c n + i)
+      → IsRegisterDay c (headIn (yearIn c n) i) (monthHead c (firstMonth c n + i))
   unfolding monthsFrom
   head-at i h =
       let f = firstMonth c n in
@@ -66,7 +66,7 @@ module _ (c : Constants) (n : ℕ) (r : YearInRegister c n) where
         span = span c ok n;
         count = refl;
         head = λ i h. head-at i (omega arith);
-        next = head-at m (omega arith) ∙ ap (monthHead c) e;
+        next = subst (λ k. IsRegisterDay c (headIn (yearIn c n) m) (monthHead c k)) e (head-at m (omega arith));
         number = λ i h.
             let e = filled-below (numberAt c f) noMarks 0 m i h (omega arith) in
             subst (Bears c (f + i)) (sym e) (bears-its-number c ok (f + i));
@@ -85,17 +85,18 @@ module _ (c : Constants) (ok : Consistent c) (n : ℕ) (v : Year) (y : ListsMont
   last : y .span .first + v .count ≡ y .span .next
   last = omega (arith, y .count, span-first c ok (y .span), span-next c ok (y .span), count-least (reckoned c ok) n)
 
-  head-upto : (i : ℕ) → i ≤ v .count → headIn v i + c .anchor ≡ monthHead c (y .span .first + i)
+  head-upto : (i : ℕ) → i ≤ v .count → IsRegisterDay c (headIn v i) (monthHead c (y .span .first + i))
   head-upto i h =
       by-order i (v .count) (y .head i)
       (λ l.
       let e : i ≡ v .count = omega arith in
-      subst (λ x. headIn v x + c .anchor ≡ monthHead c (y .span .first + x)) (sym e) (y .next ∙ ap (monthHead c) (sym last)))
+      subst (λ x. IsRegisterDay c (headIn v x) (monthHead c (y .span .first + x))) (sym e)
+      (subst (λ k. IsRegisterDay c (headIn v (v .count)) (monthHead c k)) (sym last) (y .next)))
 
-  head-after : (i : ℕ) → i < v .count → headIn v (i + 1) + c .anchor ≡ monthHead c (y .span .first + i + 1)
+  head-after : (i : ℕ) → i < v .count → IsRegisterDay c (headIn v (i + 1)) (monthHead c (y .span .first + i + 1))
   head-after i h =
       let e : y .span .first + (i + 1) ≡ y .span .first + i + 1 = omega arith in
-      head-upto (i + 1) (omega arith) ∙ ap (monthHead c) e
+      subst (λ k. IsRegisterDay c (headIn v (i + 1)) (monthHead c k)) e (head-upto (i + 1) (omega arith))
 
   place-in-year : (i : ℕ) → i < v .count → InYear c n (y .span .first + i)
   place-in-year i h = record { span = y .span; from = omega arith; before = omega (arith, last) }
@@ -107,21 +108,22 @@ module _ (c : Constants) (ok : Consistent c) (n : ℕ) (v : Year) (y : ListsMont
       let next = span-next c ok (in-year .span) ∙ sym (span-next c ok (y .span)) in
       omega (arith, last, in-year .from, in-year .before)
 
-  day-in : (i r : ℕ) → i < v .count → headIn v i ≤ r → r < headIn v (i + 1) → InMonth c (y .span .first + i) (r + c .anchor)
-  day-in i r h a b = (omega (arith, head-upto i (omega arith)), omega (arith, head-after i h))
+  day-in : (i r : ℕ) → i < v .count → headIn v i ≤ r → r < headIn v (i + 1) → InMonth c (y .span .first + i) (countDay c r)
+  day-in i r h a b = (omega (arith, head-upto i (omega arith)), omega (arith, head-upto i (omega arith), head-after i h))
 
   tile : (r : ℕ) → headIn v 0 ≤ r → r < headIn v (v .count)
       → ExactlyOne (λ i. (i < v .count) × (headIn v i ≤ r) × (r < headIn v (i + 1)))
   tile r a b =
       let e : y .span .first + 0 ≡ y .span .first = omega arith in
-      let day : DayOfYear c n (r + c .anchor) =
+      let is-day : IsRegisterDay c r (countDay c r) = omega (arith, head-upto 0 (omega arith)) in
+      let day : DayOfYear c n (countDay c r) =
       record {
         span = y .span;
         from = omega (arith, head-upto 0 (omega arith), ap (monthHead c) e);
         before = omega (arith, y .next);
       }
       in
-      let one = months-cover c ok n (r + c .anchor) day in
+      let one = months-cover c ok n (countDay c r) day in
       let at = placed (one .it) (one .has .0) in
       let i = one .it - y .span .first in
       record {

@@ -1,8 +1,8 @@
 -- How the request for the pentad in force ends, in the paper's words, and that they settle the answer.
-use Prim.Native.Nat.{ℕ, _+_, _/_, _%_}
+use Prim.Native.Nat.{ℕ, _/_, _%_}
 use mathlib.Core.Path.{_≡_, refl, subst, sym, _∙_}
 use native.Mathlib.Omega.{arith}
-use Rattle.calendar.specs.Systems.{constantsOf, yearsElapsed}
+use Rattle.calendar.specs.Systems.{constantsOf, yearsElapsed, countDay}
 use Rattle.calendar.specs.Steps.{solsticeDay}
 use Rattle.calendar.specs.Pentad.{InForce, InSolarYear}
 use Rattle.calendar.specs.ClosedForms.{pentadOn}
@@ -17,12 +17,12 @@ use Rattle.reckoning.proofs.RefusalCases.{by-inside}
 use Rattle.reckoning.proofs.YearOfDay.{by-years}
 
 -- On a day in scope.
-found-pentad : (system r : ℕ) → SystemInScope system → SolarDayInScope system r
-    → O.PentadOutcome system r (inForceAt (constantsOf system) (r + constantsOf system .anchor))
+found-pentad : (system r : ℕ) → SystemInScope system
+    → (p : SolarDayInScope system r) → O.PentadOutcome system r (inForceAt (constantsOf system) (p .day))
 found-pentad system r system-inside p =
     let c = constantsOf system in
     let ok = consistent system in
-    let d = r + c .anchor in
+    let d = p .day in
     let n = pentadOn c d / 72 in
     let early = year-from c ok d (yearsElapsed c 1) (p .from) in
     let late = year-before c ok d (yearsElapsed c 3001) (p .before) in
@@ -45,19 +45,20 @@ pentad-outcome system r =
     (λ e no-system. O.PentadOutcome.system-refused no-system (simp e))
     (λ e system-inside.
     by-years (solsticeDay c) c r
-    (λ f no-day. O.PentadOutcome.day-refused system-inside (λ p. no-day (p .from, p .before)) (simp (e, f)))
-    (λ f w.
+    (λ f no-day. O.PentadOutcome.day-refused system-inside (λ p. no-day (p .day) (p .is-day) (p .from, p .before)) (simp (e, f)))
+    (λ f is w.
     subst (O.PentadOutcome system r) (simp (e, f))
-    (found-pentad system r system-inside (record { from = w .0; before = w .1 }))))
+    (found-pentad system r system-inside (record { day = countDay c r; is-day = is; from = w .0; before = w .1 }))))
 
 -- There is no other answer that ends so.
 one-found : (system r : ℕ) (v w : PentadInForce) → O.PentadFound system r v → O.PentadFound system r w → v ≡ w
 one-found system r v w a b =
     let c = constantsOf system in
     let ok = consistent system in
-    let d = r + c .anchor in
+    let d = a .day-in-scope .day in
+    let same : b .day-in-scope .day ≡ d = omega (arith, a .day-in-scope .is-day, b .day-in-scope .is-day) in
     let here = only-in-force c ok d (yearsElapsed c (v .year)) (v .pentad) (a .in-force) in
-    let there = only-in-force c ok d (yearsElapsed c (w .year)) (w .pentad) (b .in-force) in
+    let there = only-in-force c ok d (yearsElapsed c (w .year)) (w .pentad) (subst (λ x. InForce c x (yearsElapsed c (w .year)) (w .pentad)) same (b .in-force)) in
     let epoch = ok .epoch-before in
     let refusal : v .refusal ≡ w .refusal = omega (arith, a .not-refused, b .not-refused) in
     let year : v .year ≡ w .year = omega (arith, here .0, there .0, a .in-scope .year-inside, b .in-scope .year-inside) in

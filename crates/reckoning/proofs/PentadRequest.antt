@@ -3,6 +3,7 @@ use Prim.Native.Nat.{ℕ, _+_, _/_, _%_}
 use mathlib.Core.Path.{_≡_, sym, ap, _∙_}
 use mathlib.Core.Bool.{Bool, true, false}
 use Rattle.calendar.specs.declared.data.Constants.{Constants}
+use Rattle.calendar.specs.Systems.{countDay, beforeEpoch}
 use Rattle.calendar.specs.Steps.{solsticeDay}
 use Rattle.calendar.specs.ClosedForms.{pentadOn}
 use Rattle.calendar.proofs.PentadLaws.{year-from, year-before}
@@ -11,16 +12,28 @@ use Rattle.reckoning.specs.declared.data.PentadInForce.{PentadInForce}
 use Rattle.reckoning.specs.CommonYears.{commonYear, outOfScope}
 use Rattle.reckoning.specs.LastSteps.{lastStep}
 use Rattle.reckoning.specs.RefusalNumbers.{DAY}
-use Rattle.reckoning.specs.Requests.{noneInForce, inForceIn}
+use Rattle.reckoning.specs.Requests.{inForceAt, noneInForce, inForceIn}
 use Rattle.reckoning.specs.WordBounds.{ConstantsFit}
-use Rattle.reckoning.proofs.YearOfDay.{day-outside, day-inside}
+use Rattle.reckoning.proofs.YearOfDay.{before-years, is-its-day, day-outside, day-inside}
 
-module _ {c : Constants} (fit : ConstantsFit c) (r : ℕ) {last : LastStep} (found : last ≡ lastStep c 72 (r + c .anchor + 1))
-    {b : Bool} (test : b ≡ outOfScope c (last .step / 72))
+-- A day before the epoch.
+pub pentad-before : (c : Constants) (r : ℕ) {early : Bool} {v : PentadInForce} → early ≡ beforeEpoch c r
+    → v ≡ noneInForce DAY
+    → early ≡ true
+    → v ≡ inForceIn c r
+unfolding inForceIn
+pentad-before c r test e before = e ∙ simp (before-years (solsticeDay c) c r (sym test ∙ before))
+
+-- One from the epoch on.
+module _ {c : Constants} (fit : ConstantsFit c) (r : ℕ) {early : Bool} (tested : early ≡ beforeEpoch c r)
+    (passed : early ≡ false)
+    {d : ℕ}
+    (day : d ≡ countDay c r)
+    {last : LastStep}
+    (found : last ≡ lastStep c 72 (d + 1))
+    {b : Bool}
+    (test : b ≡ outOfScope c (last .step / 72))
   where
-    abbrev d : ℕ
-    d = r + c .anchor
-
     step-is : last .step ≡ pentadOn c d
     step-is = ap (λ x. x .step) found
 
@@ -31,7 +44,7 @@ module _ {c : Constants} (fit : ConstantsFit c) (r : ℕ) {last : LastStep} (fou
     unfolding inForceIn
     pentad-outside e out =
         e
-        ∙ simp (day-outside c (fit .consistent .epoch-before) (solsticeDay c) r (pentadOn c d / 72)
+        ∙ simp (day-outside c (fit .consistent .epoch-before) (solsticeDay c) r d (pentadOn c d / 72) (is-its-day c r (sym tested ∙ passed) day)
         (year-from c (fit .consistent) d)
         (year-before c (fit .consistent) d)
         (sym scope-is ∙ out))
@@ -42,7 +55,8 @@ module _ {c : Constants} (fit : ConstantsFit c) (r : ℕ) {last : LastStep} (fou
     pentad-inside is inside =
         let year-here = is ∙ ap (λ h. commonYear c (h / 72)) step-is in
         (λ j. record { refusal = 0; year = year-here j; pentad = step-is j % 72 })
-        ∙ simp (day-inside c (fit .consistent .epoch-before) (solsticeDay c) r (pentadOn c d / 72)
+        ∙ ap (inForceAt c) day
+        ∙ simp (day-inside c (fit .consistent .epoch-before) (solsticeDay c) r d (pentadOn c d / 72) (is-its-day c r (sym tested ∙ passed) day)
         (year-from c (fit .consistent) d)
         (year-before c (fit .consistent) d)
         (sym scope-is ∙ inside))

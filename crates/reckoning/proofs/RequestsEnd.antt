@@ -5,9 +5,9 @@ use mathlib.Core.Bool.{true, false, true≢false}
 use mathlib.Core.Logic.{inl, inr, ⊎-elim}
 use native.Mathlib.Omega.{arith}
 use Rattle.calendar.specs.Inside.{Inside}
-use Rattle.calendar.specs.Systems.{constantsOf, yearsElapsed}
+use Rattle.calendar.specs.Systems.{constantsOf, yearsElapsed, IsRegisterDay, countDay}
 use Rattle.calendar.specs.Month.{monthHead}
-use Rattle.calendar.specs.Year.{Span, yearHead, nextHead, MonthNumbered, HasLeap}
+use Rattle.calendar.specs.Year.{DayOfYear, MonthNumbered, HasLeap}
 use Rattle.calendar.specs.ClosedForms.{monthOfDay, yearOfMonth, headOfYear, monthNumber, leapMark, monthCited, leapFollows}
 use Rattle.calendar.specs.LeapMonth.{leapNumber}
 use Rattle.calendar.proofs.EachSystem.{consistent}
@@ -126,7 +126,7 @@ month-outcome system year number leap =
 -- A register day is one of years 1 to 3000, or refused.
 by-day-scope : {P : Type 0} (system r : ℕ)
     → (dayWrong (constantsOf system) r ≡ true → (DayInScope system r → ⊥) → P)
-    → (dayWrong (constantsOf system) r ≡ false → DayInScope system r → P)
+    → (dayWrong (constantsOf system) r ≡ false → (p : DayInScope system r) → p .day ≡ countDay (constantsOf system) r → P)
     → P
 by-day-scope system r out into =
     let c = constantsOf system in
@@ -135,20 +135,30 @@ by-day-scope system r out into =
     (λ e no-day.
     out e
     (λ p.
-    no-day (
+    no-day (p .day) (p .is-day) (
       omega (arith, p .from, ap (monthHead c) (span-first c ok (p .first))),
       omega (arith, p .before, ap (monthHead c) (span-first c ok (p .past))),
     )))
-    (λ e w. into e (record { first = span c ok (yearsElapsed c 1); past = span c ok (yearsElapsed c 3001); from = w .0; before = w .1 }))
+    (λ e is w.
+    into e
+    (record {
+      day = countDay c r;
+      is-day = is;
+      first = span c ok (yearsElapsed c 1);
+      past = span c ok (yearsElapsed c 3001);
+      from = w .0;
+      before = w .1;
+    })
+    refl)
 
 -- The date of a day in scope, by the closed forms.
-found-date : (system r : ℕ) → SystemInScope system → DayInScope system r
-    → O.DateOutcome system r (dateAt (constantsOf system) (r + constantsOf system .anchor))
+found-date : (system r : ℕ) → SystemInScope system → (p : DayInScope system r)
+    → O.DateOutcome system r (dateAt (constantsOf system) (p .day))
 found-date system r system-inside p =
     let c = constantsOf system in
     let ok = consistent system in
     let K = reckoned c ok in
-    let d = r + c .anchor in
+    let d = p .day in
     let k = monthOfDay c d in
     let n = yearOfMonth c k in
     let early = year-from K (yearsElapsed c 1) d (omega (arith, p .from, ap (monthHead c) (span-first c ok (p .first)))) in
@@ -175,15 +185,13 @@ date-outcome system r =
     (λ e system-inside.
     by-day-scope system r
     (λ f no-day. O.DateOutcome.day-refused system-inside no-day (simp (e, f)))
-    (λ f day. subst (O.DateOutcome system r) (simp (e, f)) (found-date system r system-inside day)))
+    (λ f day is. subst (O.DateOutcome system r) (ap (dateAt (constantsOf system)) is ∙ simp (e, f)) (found-date system r system-inside day)))
 
 -- The days of a year in scope are in scope.
-pub year-day-in-scope : (system year r : ℕ) → InScope system year
-    → (y : Span (constantsOf system) (yearsElapsed (constantsOf system) year))
-    → yearHead y ≤ r + constantsOf system .anchor
-    → r + constantsOf system .anchor < nextHead y
+pub year-day-in-scope : (system year r d : ℕ) → InScope system year → IsRegisterDay (constantsOf system) r d
+    → DayOfYear (constantsOf system) (yearsElapsed (constantsOf system) year) d
     → DayInScope system r
-year-day-in-scope system year r i y a b =
+year-day-in-scope system year r d i is y =
     let c = constantsOf system in
     let ok = consistent system in
     let K = reckoned c ok in
@@ -192,8 +200,10 @@ year-day-in-scope system year r i y a b =
     let from = years-rise K {n = yearsElapsed c 1} {m = n} (omega (arith, i .year-inside)) in
     let before = years-rise K {n = n + 1} {m = yearsElapsed c 3001} (omega (arith, i .year-inside)) in
     record {
+      day = d;
+      is-day = is;
       first = span c ok (yearsElapsed c 1);
       past = span c ok (yearsElapsed c 3001);
-      from = omega (arith, ap (monthHead c) (span-first c ok y));
-      before = omega (arith, ap (monthHead c) (span-next c ok y));
+      from = omega (arith, y .from, ap (monthHead c) (span-first c ok (y .span)));
+      before = omega (arith, y .before, ap (monthHead c) (span-next c ok (y .span)));
     }

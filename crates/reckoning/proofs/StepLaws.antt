@@ -32,7 +32,11 @@ step-fits {c} {n} s u i r whole s-some u-some u-small next h =
       year-small = omega arith;
       solstice-small = r .solstice-small;
       moment-small = omega (arith, steps-close c s u whole n);
-      day = record { from = omega (arith, r .solstice-day); before = omega (arith, r .next-solstice-day) };
+      day = record {
+        from = omega (arith, r .solstice-day);
+        before = omega (arith, r .next-solstice-day);
+        small = omega (arith, r .next-solstice-day);
+      };
     }
 
 -- The last of s steps a year before day d: how it is found fits.

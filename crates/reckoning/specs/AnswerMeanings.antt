@@ -1,5 +1,4 @@
--- What the answers for a solstice, a qi, a pentad and a day sheet hold, in the paper's words. A register day is a count
--- day less the anchor.
+-- What the answers for a solstice, a qi, a pentad and a day sheet hold, in the paper's words.
 use Prim.Native.Nat.{ℕ, _+_, _*_, _≤_, _<_}
 use mathlib.Core.Path.{_≡_}
 use lib.ListN.{length, getD}
@@ -23,7 +22,9 @@ pub record IsSolstice (c : Constants) (n : ℕ) (v : Solstice) : Type 0 where
 -- The moment m, counted in units of which a part has u: its day, parts and units together, to the last unit.
 pub record IsMoment (c : Constants) (u m : ℕ) (v : Moment) : Type 0 where
   pub accepted : v .refusal ≡ 0
-  pub moment : ((v .day .0 + c .anchor) * c .solar + v .parts) * u + v .units ≡ m
+  pub day : ℕ
+  pub is-day : IsRegisterDay c (v .day .0) day
+  pub moment : (day * c .solar + v .parts) * u + v .units ≡ m
   pub parts-below : v .parts < c .solar
   pub units-below : v .units < u
 

@@ -63,7 +63,7 @@ leapWrong c n number leap = eqb leap 1 && not (leapFollows c n number)
 -- count day that a year begins on:
 abbrev pub outsideYears : (ℕ → ℕ) → Constants → ℕ → Bool
 outsideYears begins c r =
-    ltb (r + c .anchor) (begins (yearsElapsed c 1)) || leb (begins (yearsElapsed c 3001)) (r + c .anchor)
+    ltb (r + c .anchor) (begins (yearsElapsed c 1) + c .epoch) || leb (begins (yearsElapsed c 3001) + c .epoch) (r + c .anchor)
 
 -- its head,
 abbrev pub dayWrong : Constants → ℕ → Bool

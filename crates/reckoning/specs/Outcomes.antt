@@ -65,8 +65,8 @@ pub record DateFound (system r : ℕ) (v : Date) : Type 0 where
   pub k : ℕ
   pub numbered : MonthNumbered (constantsOf system) (yearsElapsed (constantsOf system) (v .year)) (v .month) (v .leap) k
   pub not-refused : v .refusal ≡ 0
-  pub in-month : InMonth (constantsOf system) k (r + constantsOf system .anchor)
-  pub day-is : v .day ≡ r + constantsOf system .anchor - monthHead (constantsOf system) k + 1
+  pub in-month : InMonth (constantsOf system) k (day-in-scope .day)
+  pub day-is : v .day ≡ day-in-scope .day - monthHead (constantsOf system) k + 1
 
 -- Refused SYSTEM, then DAY; or answered.
 pub data DateOutcome (system r : ℕ) (v : Date) : Type 0 where
@@ -80,8 +80,8 @@ pub record PentadFound (system r : ℕ) (v : PentadInForce) : Type 0 where
   pub in-scope : InScope system (v .year)
   pub day-in-scope : SolarDayInScope system r
   pub not-refused : v .refusal ≡ 0
-  pub in-year : InSolarYear (constantsOf system) (yearsElapsed (constantsOf system) (v .year)) (r + constantsOf system .anchor)
-  pub in-force : InForce (constantsOf system) (r + constantsOf system .anchor) (yearsElapsed (constantsOf system) (v .year)) (v .pentad)
+  pub in-year : InSolarYear (constantsOf system) (yearsElapsed (constantsOf system) (v .year)) (day-in-scope .day)
+  pub in-force : InForce (constantsOf system) (day-in-scope .day) (yearsElapsed (constantsOf system) (v .year)) (v .pentad)
 
 -- Refused SYSTEM, then DAY; or answered.
 pub data PentadOutcome (system r : ℕ) (v : PentadInForce) : Type 0 where

@@ -6,7 +6,7 @@ use lib.Dec.{eqb}
 use lib.ListN.{replicate}
 use Rattle.calendar.specs.declared.data.Constants.{Constants}
 use Rattle.calendar.specs.declared.data.RegisterDay.{RegisterDay}
-use Rattle.calendar.specs.Systems.{constantsOf, registerDay}
+use Rattle.calendar.specs.Systems.{constantsOf, registerDay, countDay}
 use Rattle.calendar.specs.SixtyDayName.{nameOf}
 use Rattle.calendar.specs.Steps.{solsticeDay, solsticeRemainder, moment, dayOf, partsOf, unitsOf}
 use Rattle.calendar.specs.Month.{monthHead}
@@ -208,7 +208,7 @@ abbrev pub noDate : ℕ → Date
 noDate refusal = record { refusal = refusal; year = 0; month = 0; leap = 0; day = 0 }
 
 unfoldable pub dateIn : Constants → ℕ → Date
-dateIn c r = cond (dayWrong c r) (noDate DAY) (dateAt c (r + c .anchor))
+dateIn c r = cond (dayWrong c r) (noDate DAY) (dateAt c (countDay c r))
 
 unfoldable pub dateOf : ℕ → ℕ → Date
 dateOf system r = answerOfSystem system (λ c. dateIn c r) noDate
@@ -222,7 +222,7 @@ abbrev pub noneInForce : ℕ → PentadInForce
 noneInForce refusal = record { refusal = refusal; year = 0; pentad = 0 }
 
 unfoldable pub inForceIn : Constants → ℕ → PentadInForce
-inForceIn c r = cond (solarDayWrong c r) (noneInForce DAY) (inForceAt c (r + c .anchor))
+inForceIn c r = cond (solarDayWrong c r) (noneInForce DAY) (inForceAt c (countDay c r))
 
 unfoldable pub pentadInForce : ℕ → ℕ → PentadInForce
 pentadInForce system r = answerOfSystem system (λ c. inForceIn c r) noneInForce

@@ -1,11 +1,11 @@
 -- What is in scope, and so when refusals SYSTEM, YEAR, MONTH and LEAP apply, and DAY to a register day: paper 01,
 -- "Numbered refusals", and paper 02, Q-3 and Q-4.
-use Prim.Native.Nat.{ℕ, _+_, _≤_, _<_}
+use Prim.Native.Nat.{ℕ, _≤_, _<_}
 use mathlib.Core.Path.{_≡_}
 use mathlib.Core.Logic.{_⊎_}
 use Rattle.calendar.specs.declared.data.Constants.{Constants}
 use Rattle.calendar.specs.Inside.{Inside}
-use Rattle.calendar.specs.Systems.{constantsOf, yearsElapsed}
+use Rattle.calendar.specs.Systems.{constantsOf, yearsElapsed, IsRegisterDay}
 use Rattle.calendar.specs.Steps.{solsticeDay}
 use Rattle.calendar.specs.Year.{Span, yearHead, HasLeap}
 
@@ -33,13 +33,17 @@ NotLeap c n number leap = (leap ≡ 1) × (HasLeap c n number → ⊥)
 -- The register days of years 1 to 3000, by the heads of years 1 and 3001; a citation by register day and a request for
 -- a date are refused DAY for any other.
 pub record DayInScope (system r : ℕ) : Type 0 where
+  pub day : ℕ
+  pub is-day : IsRegisterDay (constantsOf system) r day
   pub first : Span (constantsOf system) (yearsElapsed (constantsOf system) 1)
   pub past : Span (constantsOf system) (yearsElapsed (constantsOf system) 3001)
-  pub from : yearHead first ≤ r + constantsOf system .anchor
-  pub before : r + constantsOf system .anchor < yearHead past
+  pub from : yearHead first ≤ day
+  pub before : day < yearHead past
 
 -- The register days of years 1 to 3000 counted from solstice to solstice, by the solstice days of years 1 and 3001; a
 -- request for the pentad in force is refused DAY for any other.
 pub record SolarDayInScope (system r : ℕ) : Type 0 where
-  pub from : solsticeDay (constantsOf system) (yearsElapsed (constantsOf system) 1) ≤ r + constantsOf system .anchor
-  pub before : r + constantsOf system .anchor < solsticeDay (constantsOf system) (yearsElapsed (constantsOf system) 3001)
+  pub day : ℕ
+  pub is-day : IsRegisterDay (constantsOf system) r day
+  pub from : solsticeDay (constantsOf system) (yearsElapsed (constantsOf system) 1) ≤ day
+  pub before : day < solsticeDay (constantsOf system) (yearsElapsed (constantsOf system) 3001)

@@ -21,11 +21,13 @@ pub record ConstantsFit (c : Constants) : Type 0 where
   pub years : 2 ^ 32 * c .year < 2 ^ 63
   pub elapsed-small : c .elapsed < 2 ^ 31
   pub anchor-small : c .anchor < 2 ^ 35
+  pub epoch-small : c .epoch < 2 ^ 31
 
 -- Count day d has a register day of 32 bits, with room for a year's days after it.
 pub record InRegister (c : Constants) (d : ℕ) : Type 0 where
-  pub from : c .anchor ≤ d
-  pub before : d < c .anchor + 2 ^ 31
+  pub from : c .anchor ≤ d + c .epoch
+  pub before : d + c .epoch < c .anchor + 2 ^ 31
+  pub small : d + c .epoch < 2 ^ 36
 
 -- Year n has a head with a register day.
 pub record HeadInRegister (c : Constants) (n : ℕ) : Type 0 where

@@ -3,7 +3,7 @@
 ghost use mathlib.Core.Path.{_≡_};
 ghost use mathlib.Core.Bool.{false};
 ghost use Prim.Native.Nat.{_%_, _<_, _^_};
-ghost use Rattle.calendar.specs.Systems.{yearsElapsed, registerDay};
+ghost use Rattle.calendar.specs.Systems.{yearsElapsed, registerDay, countDay, beforeEpoch};
 ghost use Rattle.calendar.specs.Month.{monthHead, numberOf};
 ghost use Rattle.calendar.specs.ClosedForms.{dayOfQi};
 ghost use Rattle.reckoning.specs.CommonYears.{commonYear, outOfScope};
@@ -31,7 +31,23 @@ pub(crate) fn register_day(c: Constants, d: u64) -> RegisterDay
     requires { ⌜ InRegister c d ⌝ }
     ensures { λ r. ⌜ r ≡ record { 0 = registerDay c d } ⌝ }
 {
-    RegisterDay((d - c.anchor) as u32)
+    RegisterDay((d + c.epoch - c.anchor) as u32)
+}
+
+// Whether a register day has no count day, since it lies before the epoch.
+pub(crate) fn before_epoch(c: Constants, day: RegisterDay) -> bool
+    requires { ⌜ ConstantsFit c ⌝ }
+    ensures { λ r. ⌜ r ≡ beforeEpoch c (day .0) ⌝ }
+{
+    day.0 as u64 + c.anchor < c.epoch
+}
+
+// The count day of a register day.
+pub(crate) fn count_day(c: Constants, day: RegisterDay) -> u64
+    requires { ⌜ ConstantsFit c × (beforeEpoch c (day .0) ≡ false) ⌝ }
+    ensures { λ r. ⌜ r ≡ countDay c (day .0) ⌝ }
+{
+    day.0 as u64 + c.anchor - c.epoch
 }
 
 // The first count day of month k.

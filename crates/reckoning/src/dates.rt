@@ -2,7 +2,9 @@
 ghost use mathlib.Core.Path.{_≡_};
 ghost use Rattle.reckoning.specs.Requests.{noDate, dateIn};
 ghost use Rattle.reckoning.specs.WordBounds.{ConstantsFit};
+use crate::closed_forms::before_epoch;
 use crate::closed_forms::common_year;
+use crate::closed_forms::count_day;
 use crate::closed_forms::number_of_qi;
 use crate::closed_forms::out_of_scope;
 use crate::data::Date;
@@ -23,12 +25,16 @@ pub(crate) fn none(refusal: u8) -> Date
     }
 }
 
-// The date of a register day. Its year tells whether the day is in scope, so that no year's head is reckoned.
+// The date of a register day. From the epoch on its year tells whether the day is in scope, so that no year's head is
+// reckoned.
 pub(crate) fn of_day(c: Constants, day: RegisterDay) -> Date
     requires { ⌜ ConstantsFit c ⌝ }
     ensures { λ r. ⌜ r ≡ dateIn c (day .0) ⌝ }
 {
-    let d = day.0 as u64 + c.anchor;
+    if before_epoch(c, day) {
+        return none(DAY);
+    }
+    let d = count_day(c, day);
     let m = month_spans::of_day(c, d);
     let last = month_spans::last_qi(c, m);
     let n = last.qi / 12;

@@ -6,6 +6,7 @@ ghost use Rattle.calendar.specs.Month.{monthHead};
 ghost use Rattle.calendar.specs.ClosedForms.{monthOfDay, firstMonth, registerHead};
 ghost use Rattle.reckoning.specs.MonthSpans.{monthSpan};
 ghost use Rattle.reckoning.specs.WordBounds.{ConstantsFit, HeadInRegister};
+use crate::closed_forms::count_day;
 use crate::closed_forms::register_day;
 use crate::closed_forms::years_elapsed;
 use crate::month_spans::MonthSpan;
@@ -56,7 +57,7 @@ pub(crate) fn first_month(system: u32, c: Constants, year: u32) -> MonthSpan
 {
     let printed = printed_heads::of_year(system, year);
     match printed {
-        Printed::Head(head) => of_head(c, head.0 as u64 + c.anchor),
+        Printed::Head(head) => of_head(c, count_day(c, head)),
         Printed::Unprinted => first_of_year(c, years_elapsed(c, year)),
     }
 }
