@@ -21,8 +21,6 @@ uint64_t store_from_page(const uint8_t *input, size_t input_len,
 
 enum {
     RECORDS = 100000,       /* too many for branches to be learnt by heart */
-    BATCHES = 7,
-    PRINTED = 3,            /* the batch of records in printed years */
     OUTPUT_ROOM = 16
 };
 
@@ -35,20 +33,51 @@ static size_t make_mixed(struct random *random, uint32_t refused,
     return make_accepted(random, 1 + random_below(random, KINDS), record);
 }
 
+static size_t make_guantian(struct random *random, uint32_t kind,
+                            uint8_t *record)
+{
+    return make_in_system(random, 1, kind, record);
+}
+
+static size_t make_jiyuan(struct random *random, uint32_t kind,
+                          uint8_t *record)
+{
+    return make_in_system(random, 2, kind, record);
+}
+
+static size_t make_jingchu(struct random *random, uint32_t kind,
+                           uint8_t *record)
+{
+    return make_in_system(random, 3, kind, record);
+}
+
 /* What is measured: how each record is made, and of which kind, share or
  * refusal. */
 static const struct {
     const char *name;
     size_t (*make)(struct random *random, uint32_t which, uint8_t *record);
     uint32_t which;
-} makers[BATCHES] = {
-    {"kind 1", make_accepted, 1},
-    {"kind 2", make_accepted, 2},
-    {"kind 3", make_accepted, 3},
-    [PRINTED] = {"kind 3 printed", make_printed, 3},
-    {"kind 4", make_accepted, 4},
+} makers[] = {
+    {"kind 3 printed", make_printed, 3},
+    {"kind 1 G", make_guantian, 1},
+    {"kind 1 J", make_jiyuan, 1},
+    {"kind 1 W", make_jingchu, 1},
+    {"kind 2 G", make_guantian, 2},
+    {"kind 2 J", make_jiyuan, 2},
+    {"kind 2 W", make_jingchu, 2},
+    {"kind 3 G", make_guantian, 3},
+    {"kind 3 J", make_jiyuan, 3},
+    {"kind 3 W", make_jingchu, 3},
+    {"kind 4 G", make_guantian, 4},
+    {"kind 4 J", make_jiyuan, 4},
+    {"kind 4 W", make_jingchu, 4},
     {"mixed", make_mixed, 5},
     {"refused 10", make_refused_by, 10}
+};
+
+enum {
+    PRINTED = 0,            /* the batch of records in printed years */
+    BATCHES = sizeof makers / sizeof makers[0]
 };
 
 /* Records one after another, with their lengths. */

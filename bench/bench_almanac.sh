@@ -60,13 +60,14 @@ measure() {
     }'
 }
 
-for systems in '1 1' '1 2' '2 1' '2 2' '1 3'; do
+for systems in '1 1' '1 2' '1 3' '2 1' '2 2' '2 3' '3 1' '3 2' '3 3' '3 4'; do
     read -r first second <<< "$systems"
     same compare "$first" "$second" 0 3002
 done
-for system in 1 2 3; do
+for system in 1 2 3 4; do
     same pentads "$system" 0 3002
     same pentad "$system" 1721000 2817500
+    same pentad "$system" 0 400000
 done
 
 measure year 300 compare 1 2 1 3000

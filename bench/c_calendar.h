@@ -1,4 +1,4 @@
-/* The two calendars, for the C that the library's speed is held against. */
+/* The calendars, for the C that the library's speed is held against. */
 
 #ifndef C_CALENDAR_H
 #define C_CALENDAR_H
@@ -14,24 +14,30 @@
 #endif
 
 enum {
+    SYSTEMS = 3,
     LAST_YEAR = 3000
 };
 
 struct calendar {
-    uint64_t day;           /* parts in a day */
+    uint64_t solar;         /* parts in a day, of the year's */
+    uint64_t lunar;         /* and of the month's */
     uint64_t year;          /* parts in a year */
     uint64_t month;         /* parts in a mean month */
     uint64_t denominator;   /* of a pentad's fraction of a part */
     uint64_t elapsed;       /* years elapsed at common year 0 */
-    uint64_t anchor;        /* count day less register day */
+    uint64_t anchor;        /* count day less register day, modulo 2^64 */
 };
 
 static const struct calendar guantian = {
-    12030, 4393880, 355253, 36, 5944808 - 1092, 2169182929
+    12030, 12030, 4393880, 355253, 36, 5944808 - 1092, 2169182929
 };
 
 static const struct calendar jiyuan = {
-    7290, 2662626, 215278, 60, 28613460 - 1100, 10448760934
+    7290, 7290, 2662626, 215278, 60, 28613460 - 1100, 10448760934
+};
+
+static const struct calendar jingchu = {
+    1843, 4559, 673150, 134630, 36, 4045 - 237, -UINT64_C(330191)
 };
 
 /* A month, its first day and the next month's, as count days. */
@@ -43,34 +49,39 @@ struct month {
 
 INLINE uint64_t day_of_qi(const struct calendar *c, uint64_t qi)
 {
-    return qi * c->year / (12 * c->day);
+    return qi * c->year / (12 * c->solar);
 }
 
 INLINE uint64_t head_of_month(const struct calendar *c, uint64_t month)
 {
-    return month * c->month / c->day;
+    return month * c->month / c->lunar;
 }
 
 /* From the new moon to the end of the day there are as many whole days as the
  * month has days before this one; what is left of it has the days after. */
 INLINE struct month month_of_day(const struct calendar *c, uint64_t day)
 {
-    uint64_t day_end = (day + 1) * c->day - 1;
+    uint64_t day_end = (day + 1) * c->lunar - 1;
     uint32_t into = (uint32_t)(day_end % c->month);
     uint32_t left = (uint32_t)c->month - into - 1;
     struct month found = {
         day_end / c->month,
-        day - into / (uint32_t)c->day,
-        day + 1 + left / (uint32_t)c->day
+        day - into / (uint32_t)c->lunar,
+        day + 1 + left / (uint32_t)c->lunar
     };
 
     return found;
 }
 
+INLINE uint64_t solstice_day(const struct calendar *c, uint32_t year)
+{
+    return (c->elapsed + year) * c->year / c->solar;
+}
+
 /* The solstice's day is the year's first middle qi's. */
 INLINE uint64_t head_of_year(const struct calendar *c, uint32_t year)
 {
-    return month_of_day(c, (c->elapsed + year) * c->year / c->day).head;
+    return month_of_day(c, solstice_day(c, year)).head;
 }
 
 /* The last middle qi before the end of a month; whether the month is leap,
@@ -82,10 +93,10 @@ struct last_qi {
 
 INLINE struct last_qi last_qi(const struct calendar *c, struct month month)
 {
-    uint64_t month_end = 12 * c->day * month.next - 1;
+    uint64_t month_end = 12 * c->solar * month.next - 1;
     struct last_qi found = {
         month_end / c->year,
-        month_end % c->year >= 12 * c->day * (month.next - month.head)
+        month_end % c->year >= 12 * c->solar * (month.next - month.head)
     };
 
     return found;

@@ -50,8 +50,10 @@ static void months_of(uint32_t system, uint32_t year, struct months *m)
 {
     if (system == 1)
         reckon(&guantian, year, m);
-    else
+    else if (system == 2)
         reckon(&jiyuan, year, m);
+    else
+        reckon(&jingchu, year, m);
 }
 
 static int is_listed(const struct months *a, const struct months *b,
@@ -133,8 +135,9 @@ static void put_comparison(uint32_t first, uint32_t second, uint32_t year)
             listed[count++] = i;
 
     put("compare ", 8);
-    put(first == 1 ? "G " : "J ", 2);
-    put(second == 1 ? "G" : "J", 1);
+    put(&"?GJW"[first], 1);
+    put(" ", 1);
+    put(&"?GJW"[second], 1);
     put_field(year);
     put_field(count);
     put("\n", 1);
@@ -146,7 +149,7 @@ static void put_page(uint32_t first, uint32_t second, uint32_t year)
 {
     if (OUTPUT_ROOM - output_len < LONGEST_PAGE)
         flush_output();
-    if (first - 1 >= 2 || second - 1 >= 2)
+    if (first - 1 >= SYSTEMS || second - 1 >= SYSTEMS)
         put("refused 4\n", 10);
     else if (year - 1 >= LAST_YEAR)
         put("refused 5\n", 10);

@@ -74,12 +74,12 @@ INLINE void write_pentads(const struct calendar *c, char letter, uint32_t year)
     line_end(put_year(put_word(line_start(), "pentads "), letter, year));
     for (uint32_t p = 0; p < PENTADS; p++, moment += step) {
         uint64_t parts = moment / c->denominator;
-        uint32_t day = (uint32_t)(parts / c->day - c->anchor);
+        uint32_t day = (uint32_t)(parts / c->solar - c->anchor);
         char *at = put_field(put_word(line_start(), "pentad"), p);
 
         *at++ = ' ';
         at = put_field(put_register_day(at, day), (day + 49) % 60);
-        at = put_field(at, (uint32_t)(parts % c->day));
+        at = put_field(at, (uint32_t)(parts % c->solar));
         line_end(put_field(at, (uint32_t)(moment % c->denominator)));
     }
 }
@@ -87,14 +87,15 @@ INLINE void write_pentads(const struct calendar *c, char letter, uint32_t year)
 /* The pentad in force at the end of a day: the last before the next day. */
 INLINE void write_in_force(const struct calendar *c, char letter, uint32_t day)
 {
-    uint64_t next = day + c->anchor + 1;
-    uint64_t pentad = (next * (PENTADS * c->day) - 1) / c->year;
-    uint64_t year = pentad / PENTADS - c->elapsed;
+    uint64_t count_day = day + c->anchor;
 
-    if (year - 1 >= LAST_YEAR) {
+    if (count_day < solstice_day(c, 1) ||
+        count_day >= solstice_day(c, LAST_YEAR + 1)) {
         write_refused(7);
         return;
     }
+    uint64_t pentad = ((count_day + 1) * (PENTADS * c->solar) - 1) / c->year;
+    uint64_t year = pentad / PENTADS - c->elapsed;
     char *at = put_register_day(line_start(), day);
     *at++ = ' ';
     at = put_year(at, letter, (uint32_t)year);
@@ -103,24 +104,28 @@ INLINE void write_in_force(const struct calendar *c, char letter, uint32_t day)
 
 static void write_year(uint32_t system, uint32_t year)
 {
-    if (system - 1 >= 2)
+    if (system - 1 >= SYSTEMS)
         write_refused(4);
     else if (year - 1 >= LAST_YEAR)
         write_refused(5);
     else if (system == 1)
         write_pentads(&guantian, 'G', year);
-    else
+    else if (system == 2)
         write_pentads(&jiyuan, 'J', year);
+    else
+        write_pentads(&jingchu, 'W', year);
 }
 
 static void write_day(uint32_t system, uint32_t day)
 {
-    if (system - 1 >= 2)
+    if (system - 1 >= SYSTEMS)
         write_refused(4);
     else if (system == 1)
         write_in_force(&guantian, 'G', day);
-    else
+    else if (system == 2)
         write_in_force(&jiyuan, 'J', day);
+    else
+        write_in_force(&jingchu, 'W', day);
 }
 
 int main(int argc, char **argv)

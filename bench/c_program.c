@@ -55,7 +55,7 @@ static void write_stored(const uint8_t *stored, uint32_t day)
     uint32_t year = (uint32_t)stored[5] | (uint32_t)stored[6] << 8;
     char *at = line_start();
 
-    *at++ = stored[4] == 1 ? 'G' : 'J';
+    *at++ = "?GJW"[stored[4]];
     *at++ = ' ';
     at = put_below_10000(at, year);
     *at++ = ' ';

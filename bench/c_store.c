@@ -251,6 +251,8 @@ uint64_t c_store(const uint8_t *input, size_t input_len,
         return store_by(&guantian, kind, input, output, output_len);
     case 2:
         return store_by(&jiyuan, kind, input, output, output_len);
+    case 3:
+        return store_by(&jingchu, kind, input, output, output_len);
     default:
         return refuse(4);
     }

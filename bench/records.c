@@ -2,6 +2,7 @@
 
 #include <string.h>
 
+#include "c_calendar.h"
 #include "c_heads.h"
 #include "c_store.h"
 
@@ -59,9 +60,17 @@ static size_t make_within(struct random *random, const struct span *span,
     return sizeof stored;
 }
 
+size_t make_in_system(struct random *random, uint32_t system, uint32_t kind,
+                      uint8_t *record)
+{
+    struct span one = {system, 1, 1, LAST_YEAR};
+
+    return make_within(random, &one, kind, record);
+}
+
 size_t make_accepted(struct random *random, uint32_t kind, uint8_t *record)
 {
-    static const struct span all = {1, 2, 1, 3000};
+    static const struct span all = {1, SYSTEMS, 1, LAST_YEAR};
 
     return make_within(random, &all, kind, record);
 }
@@ -97,7 +106,8 @@ static size_t spoil(struct random *random, uint32_t refusal,
         record[length] = 0;
         return way == 1 ? length - 1 : length + 1;
     case 4:
-        record[4] = (uint8_t)(way == 0 ? 0 : 3 + random_below(random, 253));
+        record[4] = (uint8_t)(way == 0 ? 0 : SYSTEMS + 1 +
+                              random_below(random, 255 - SYSTEMS));
         return length;
     case 5:
         if (kind < 4)

@@ -14,8 +14,10 @@ enum {
     RECORD_ROOM = 16    /* more than the longest record made here */
 };
 
-/* Writes an accepted record of the kind, 1 to 4, in a random system, for a
- * random day of the years 1 to 3000. Returns its length. */
+/* Writes an accepted record of the kind, 1 to 4, for a random day of the years
+ * 1 to 3000, in a system or in a random one. Returns its length. */
+size_t make_in_system(struct random *random, uint32_t system, uint32_t kind,
+                      uint8_t *record);
 size_t make_accepted(struct random *random, uint32_t kind, uint8_t *record);
 
 /* The same for a random day of the Guantian years 960 to 1279, whose heads are

@@ -1,8 +1,10 @@
--- The two systems: paper 01, "Constants", and of paper 02, Q-4, the denominator of a pentad's fraction.
+-- The systems: paper 01, "Constants", and of paper 02, Q-4, the denominator of a pentad's fraction; Jingchu by Q-6.
 use Prim.Native.Nat.{ℕ, _+_, _-_}
 use mathlib.Core.Path.{_≡_}
-use mathlib.Core.Bool.{Bool, cond}
-use lib.Dec.{ltb, eqb}
+use mathlib.Core.Bool.{Bool}
+use mathlib.Core.List.{List, [], _∷_}
+use lib.Dec.{ltb}
+use lib.ListN.{length, getD}
 use Rattle.calendar.specs.declared.data.Constants.{Constants}
 
 -- System 1, Guantian.
@@ -39,9 +41,34 @@ jiyuan =
       epoch = 0;
     }
 
--- The constants that a system's number picks; a request with any number but 1 and 2 is refused.
+-- System 3, Jingchu. The printed 4,046 of 001 counts the year itself among the years elapsed.
+abbrev pub jingchu : Constants
+jingchu =
+    record {
+      solar = 1843;
+      lunar = 4559;
+      year = 673_150;
+      month = 134_630;
+      units = 12;
+      denominator = 36;
+      elapsed = 4045;
+      common = 237;
+      name = 0;
+      anchor = 0;
+      epoch = 330_191;
+    }
+
+-- The systems in the order of their numbers, from 1.
+abbrev pub systems : List Constants
+systems = guantian ∷ jiyuan ∷ jingchu ∷ []
+
+abbrev pub lastSystem : ℕ
+lastSystem = length systems
+
+-- The constants that a system's number picks. A request with any other number is refused; that it picks Guantian's has no
+-- effect.
 abbrev pub constantsOf : ℕ → Constants
-constantsOf system = cond (eqb system 1) guantian jiyuan
+constantsOf system = getD systems (system - 1) guantian
 
 -- Row "years elapsed": N at common year A. It rises by one a year; the printed "two" of 002 is corrected.
 -- The sum stands before the difference, so that it is right for every A from 1.

@@ -1,7 +1,10 @@
-// The constants of the two systems.
+// The constants of the systems, which are numbered from 1.
 ghost use mathlib.Core.Path.{_≡_};
-ghost use Rattle.calendar.specs.Systems.{guantian, jiyuan};
+ghost use Rattle.calendar.specs.Systems.{guantian, jiyuan, jingchu};
 use crate::data::Constants;
+
+// The number of the last.
+pub const LAST: u32 = 3;
 
 pub fn guantian() -> Constants
     ensures { λ r. ⌜ r ≡ guantian ⌝ }
@@ -36,5 +39,23 @@ pub fn jiyuan() -> Constants
         name: 15,
         anchor: 10_448_760_934,
         epoch: 0,
+    }
+}
+
+pub fn jingchu() -> Constants
+    ensures { λ r. ⌜ r ≡ jingchu ⌝ }
+{
+    Constants {
+        solar: 1843,
+        lunar: 4559,
+        year: 673_150,
+        month: 134_630,
+        units: 12,
+        denominator: 36,
+        elapsed: 4045,
+        common: 237,
+        name: 0,
+        anchor: 0,
+        epoch: 330_191,
     }
 }

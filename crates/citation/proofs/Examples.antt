@@ -169,7 +169,7 @@ table =
     ∷ (Pentad 2 1106 1 gives (0 ∷ 2_125_013 ∷ 42 ∷ 5066 ∷ 55 ∷ []))
     ∷ (Pentad 2 1106 3 gives (0 ∷ 2_125_023 ∷ 52 ∷ 6128 ∷ 45 ∷ []))
     -- refused, with zeros; 49 is the name of day 0
-    ∷ (Pentad 3 0 72 gives (4 ∷ 0 ∷ 49 ∷ 0 ∷ 0 ∷ []))
+    ∷ (Pentad 4 0 72 gives (4 ∷ 0 ∷ 49 ∷ 0 ∷ 0 ∷ []))
     ∷ (Pentad 1 0 72 gives (5 ∷ 0 ∷ 49 ∷ 0 ∷ 0 ∷ []))
     ∷ (Pentad 1 3000 72 gives (9 ∷ 0 ∷ 49 ∷ 0 ∷ 0 ∷ []))
     -- the day of case 9, the turn of the year, the first and the last day
@@ -180,7 +180,7 @@ table =
     ∷ (InForceOn 1 1_721_414 gives (0 ∷ 1 ∷ 0 ∷ []))
     ∷ (InForceOn 2 2_817_144 gives (0 ∷ 3000 ∷ 71 ∷ []))
     ∷ (InForceOn 2 2_817_145 gives (7 ∷ 0 ∷ 0 ∷ []))
-    ∷ (InForceOn 3 0 gives (4 ∷ 0 ∷ 0 ∷ []))
+    ∷ (InForceOn 4 0 gives (4 ∷ 0 ∷ 0 ∷ []))
     ∷ []
 
 pub examples : map asked table ≡ map expected table

@@ -141,14 +141,11 @@ module _ (system year month leap name : ℕ) (m : Month) (e : m ≡ monthOf syst
   name-right z h l =
       right-place (m .refusal) (m .told) (nameWrong m name) on-name z (ap₂ _||_ (le-ltb 59 name h) (lt-leb (m .length) days l)) ∙ name-in-month
 
-  -- the same, with the name of the month's first day at hand
-  pub name-right-from : (first : ℕ) → first ≡ nameOf (m .head .0) → m .refusal ≡ 0 → name ≤ 59
-      → (name + 60 - first) % 60 < m .length
-      → accept (m .head .0 + (name + 60 - first) % 60) system year month leap ((name + 60 - first) % 60 + 1)
-      ≡ judgeName system year month leap name
-  name-right-from first is z h l =
-      ap (λ n. accept (m .head .0 + (name + 60 - n) % 60) system year month leap ((name + 60 - n) % 60 + 1)) is
-      ∙ name-right z h (omega arith)
+  -- the same, with the days at hand
+  pub name-right-after : {after : ℕ} → after ≡ days → m .refusal ≡ 0 → name ≤ 59 → after < m .length
+      → accept (m .head .0 + after) system year month leap (after + 1) ≡ judgeName system year month leap name
+  name-right-after is z h l =
+      ap (λ n. accept (m .head .0 + n) system year month leap (n + 1)) is ∙ name-right z h (omega arith)
 
 -- Which judgement a kind gets, from what was read of the fields.
 module _ (s : List ℕ) {j : Judgement} {system : ℕ} (system-is : system ≡ systemOf s) where

@@ -4,7 +4,7 @@ use mathlib.Core.Path.{_≡_, ap, sym, _∙_}
 use mathlib.Core.List.{List, [], _∷_}
 use native.Mathlib.Omega.{arith}
 use lib.ListN.{length}
-use Rattle.calendar.specs.Systems.{constantsOf, yearsElapsed, IsRegisterDay, registerDay}
+use Rattle.calendar.specs.Systems.{lastSystem, constantsOf, yearsElapsed, IsRegisterDay, registerDay}
 use Rattle.calendar.specs.Month.{monthHead, monthLength}
 use Rattle.calendar.specs.Year.{DayOfYear}
 use Rattle.reckoning.specs.Scope.{InScope}
@@ -69,7 +69,7 @@ module _ (b : List ℕ) (a : Accepted b) (kind : kindOf b ≡ 1) where
   in-scope : InScope (systemOf b) (yearField b)
   in-scope =
       record {
-        system-inside = by-inside 1 2 (systemOf b) (λ e out. absurd (rightly b a .system-right out)) (λ e into. into);
+        system-inside = by-inside 1 lastSystem (systemOf b) (λ e out. absurd (rightly b a .system-right out)) (λ e into. into);
         year-inside = by-inside 1 3000 (yearField b) (λ e out. absurd (rightly b a .year-right (omega arith, out))) (λ e into. into);
       }
 

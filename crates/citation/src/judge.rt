@@ -1,8 +1,8 @@
 // The judgement of a citation: its refusal, or the day that it names and its stored record.
 ghost use mathlib.Core.Path.{_≡_};
-ghost use Prim.Native.Nat.{_≤_, _<_};
+ghost use Prim.Native.Nat.{_≤_, _<_, _^_};
 ghost use lib.ListN.{length};
-ghost use Rattle.citation.specs.Store.{refuseTelling, refuse, accept, judgeDay, judgeName, lengthRight, judgeKind, judgeOf};
+ghost use Rattle.citation.specs.Store.{refuseTelling, refuse, accept, judgeDay, daysToName, judgeName, lengthRight, judgeKind, judgeOf};
 ghost use Rattle.citation.specs.Record.{kindOf, systemOf, kindLength};
 ghost use Rattle.citation.specs.JudgeParts.{Fields, Whole, Found, ofAnotherYear, judgeDated, unnamed, namedByOrdinal, namedDay};
 use calendar::data::DayName;
@@ -71,7 +71,7 @@ fn accept(r: u32, system: u32, year: u32, month: u32, leap: u32, day: u32) -> Ju
 fn of_another_year(year: u32, asked: u32) -> bool
     ensures { λ r. ⌜ r ≡ ofAnotherYear year asked ⌝ }
 {
-    asked != 0 && year != asked
+    year != asked && asked != 0
 }
 
 // A register day, stored by its date; refused DAY where that is of another year than asked for.
@@ -159,6 +159,18 @@ fn judge_day(m: Month, system: u32, year: u32, month: u32, leap: u32, day: u32) 
     accept(m.head.0 + day - 1, system, year, month, leap, day)
 }
 
+// Sixty times a number, and more than any head.
+const SIXTIES: u32 = 2_147_483_700;
+
+// Days from a month's head to the next day with a name. Day r has the name (r + 49) % 60, so that they are the remainder
+// of name + 11 - head; the sixties keep that above 0.
+fn days_to_name(head: RegisterDay, name: DayName) -> u32
+    requires { ⌜ head .0 < 2 ^ 31 ⌝ }
+    ensures { λ r. ⌜ r ≡ daysToName (head .0) (name .0) ⌝ }
+{
+    (name.0 as u32 + 11 + SIXTIES - head.0) % 60
+}
+
 // Kind 2, in its month.
 fn judge_name(m: Month, system: u32, year: u32, month: u32, leap: u32, name: DayName) -> Judgement
     requires { ⌜ Fields system year month leap 0 × Found m system year month leap ⌝ }
@@ -167,7 +179,7 @@ fn judge_name(m: Month, system: u32, year: u32, month: u32, leap: u32, name: Day
     if 59 < name.0 {
         return refuse(DAY);
     }
-    let days = (name.0 as u32 + 60 - reckoning::day_name(m.head).0 as u32) % 60;
+    let days = days_to_name(m.head, name);
     if m.length as u32 <= days {
         return refuse(DAY);
     }

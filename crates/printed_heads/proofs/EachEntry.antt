@@ -9,7 +9,7 @@ use borrow.Author.Tests.{eqb-true}
 use Rattle.calendar.specs.Systems.{guantian, yearsElapsed}
 use Rattle.calendar.specs.ClosedForms.{headOfYear}
 use Rattle.calendar.proofs.Spans.{span}
-use Rattle.calendar.proofs.EachSystem.{guantian-consistent}
+use Rattle.calendar.proofs.EachSystem.{consistent}
 use Rattle.printed_heads.specs.PrintedHeads.{firstYear, IsHead}
 use Rattle.printed_heads.proofs.Table.{all, each}
 
@@ -23,6 +23,6 @@ pub each-entry : (heads : List ℕ) (i : ℕ) → all isHead firstYear heads ≡
 each-entry heads i test here =
     let n = yearsElapsed guantian (firstYear + i) in
     record {
-      span = span guantian guantian-consistent n;
+      span = span guantian (consistent 1) n;
       register-day = eqb-true _ _ (each isHead firstYear heads test i here);
     }

@@ -13,7 +13,7 @@ use Rattle.calendar.specs.Consistent.{Consistent}
 use Rattle.calendar.specs.ClosedForms.{headOfYear, registerHead}
 use Rattle.calendar.proofs.Cases.{both, by-bool}
 use Rattle.calendar.proofs.Spans.{span, span-first}
-use Rattle.calendar.proofs.EachSystem.{guantian-consistent, consistent}
+use Rattle.calendar.proofs.EachSystem.{consistent}
 use Rattle.printed_heads.specs.declared.Printed.{Printed}
 use Rattle.printed_heads.specs.declared.Printed.the-variants.{Head, Unprinted}
 use Rattle.printed_heads.specs.PrintedHeads.{firstYear, lastYear, OnPage, IsHead, Says, onPage, printedHead}
@@ -34,7 +34,7 @@ tested {system} p =
 
 -- The constants of a year on it are Guantian's.
 of-guantian : {system year : ℕ} → OnPage system year → constantsOf system ≡ guantian
-of-guantian {system} p = simp (eq-eqb system 1 (p .is-guantian))
+of-guantian p = ap constantsOf (p .is-guantian)
 
 -- A year has one head.
 head-is : (c : Constants) → Consistent c → (n r : ℕ) → IsHead c n r → r ≡ registerDay c (headOfYear c n)
@@ -51,7 +51,7 @@ pub answers : {system year : ℕ} {r : RegisterDay} → OnPage system year
     → IsHead guantian (yearsElapsed guantian year) (r .0) → Head r ≡ printedHead system year
 unfolding printedHead
 answers {system} {year} {r} p h =
-    let head = head-is guantian guantian-consistent (yearsElapsed guantian year) (r .0) h in
+    let head = head-is guantian (consistent 1) (yearsElapsed guantian year) (r .0) h in
     let of-system = ap (λ c. Head (registerHead c (yearsElapsed c year))) (sym (of-guantian p)) in
     ap Head (λ j. record { 0 = head j }) ∙ of-system ∙ simp (tested p)
 
@@ -67,7 +67,7 @@ says system year =
     let p = is-on system year on in
     let n = yearsElapsed guantian year in
     let head : IsHead guantian n (registerDay guantian (headOfYear guantian n)) =
-    record { span = span guantian guantian-consistent n; register-day = omega (arith, p .year-inside) }
+    record { span = span guantian (consistent 1) n; register-day = omega (arith, p .year-inside) }
     in
     let of-system = subst (λ c. IsHead c (yearsElapsed c year) (registerDay guantian (headOfYear guantian n))) (sym (of-guantian p)) head in
     subst (Says system year) (answers {r = registerHead guantian n} p head) (p, of-system))

@@ -1,19 +1,19 @@
 -- How a request's answer follows from what it stands on: one law for every request.
 use Prim.Native.Nat.{ℕ, _<_}
 use mathlib.Core.Path.{_≡_, refl, _∙_, subst, sym, ap}
-use mathlib.Core.Bool.{Bool, true, false}
+use mathlib.Core.Bool.{Bool, true, false, cond}
 use native.Mathlib.Omega.{arith}
 use borrow.Author.Tests.{eq-eqb, ne-eqb}
 use Rattle.calendar.specs.declared.data.Constants.{Constants}
 use Rattle.reckoning.specs.declared.asked.Asked.{Asked}
-use Rattle.calendar.specs.Systems.{guantian, jiyuan, constantsOf, yearsElapsed}
-use Rattle.reckoning.specs.ComputedRefusals.{outside, yearRefusal}
-use Rattle.reckoning.specs.RefusalNumbers.{SYSTEM}
-use Rattle.reckoning.proofs.RefusalCases.{in-scope, accepted}
+use Rattle.calendar.specs.Systems.{lastSystem, constantsOf, yearsElapsed}
+use Rattle.reckoning.specs.ComputedRefusals.{outOfYears, yearRefusal}
+use Rattle.reckoning.specs.RefusalNumbers.{YEAR}
+use Rattle.reckoning.proofs.RefusalCases.{inside-of, in-scope, accepted, by-inside}
 use Rattle.reckoning.specs.Asked.{askedOf}
-use Rattle.reckoning.specs.Requests.{answerTo, answerUnless, answerOfSystem}
+use Rattle.reckoning.specs.Requests.{answerTo, answerUnless, answerOfSystem, answerOfYear}
 use Rattle.reckoning.specs.WordBounds.{YearInRegister}
-use Rattle.reckoning.specs.Scope.{InScope}
+use Rattle.reckoning.specs.Scope.{YearInScope, InScope}
 use Rattle.reckoning.proofs.ScopeInRegister.{year-in-register}
 
 module _ {A : Type 0} (answer : Constants → ℕ → A) (blank : ℕ → A) where
@@ -51,29 +51,29 @@ module _ {A : Type 0} (answer : Constants → ℕ → A) (blank : ℕ → A) whe
       sym (ap (λ k. answer k (yearsElapsed k year)) e)
       ∙ answered (askedOf (yearRefusal system year) system year) _ refl z
 
--- The constants that a number picks.
-pub picks-guantian : (system : ℕ) → system ≡ 1 → constantsOf system ≡ guantian
-picks-guantian system e = simp (eq-eqb system 1 e)
+-- A request by year, of a system's constants, refused or answered.
+module _ {A : Type 0} (answer : Constants → ℕ → A) (blank : ℕ → A) (c : Constants) (year : ℕ) {b : Bool} (test : b ≡ outOfYears year) where
+  abbrev decided : Bool → A
+  decided wrong = cond wrong (blank YEAR) (answer c (yearsElapsed c year))
 
-pub picks-jiyuan : (system : ℕ) → (system ≡ 1 → ⊥) → constantsOf system ≡ jiyuan
-picks-jiyuan system h = simp (ne-eqb system 1 h)
+  pub refused-in-system : b ≡ true → blank YEAR ≡ answerOfYear c year answer blank
+  refused-in-system out = ap decided (sym out ∙ test)
 
--- What the constants picked give, those of the system give.
-pub picked : {A : Type 0} (f : Constants → A) (system : ℕ) {c : Constants} {r : A} → constantsOf system ≡ c → r ≡ f c
-    → r ≡ f (constantsOf system)
-picked f system e is = is ∙ sym (ap f e)
+  pub answered-in-system : b ≡ false → answer c (yearsElapsed c year) ≡ answerOfYear c year answer blank
+  answered-in-system inside = ap decided (sym inside ∙ test)
 
--- A request by system and register day, refused or answered, by the constants that the system's number picks.
-module _ {A : Type 0} (answer : Constants → A) (blank : ℕ → A) (system : ℕ) {b : Bool} (test : b ≡ outside 1 2 system) {v : A} where
-  pub no-such-system : b ≡ true → v ≡ blank SYSTEM → v ≡ answerOfSystem system answer blank
-  no-such-system out e = e ∙ simp (sym test ∙ out)
+pub year-tested : (year : ℕ) {b : Bool} → b ≡ outOfYears year → b ≡ false → YearInScope year
+year-tested year test inside = inside-of 1 3000 year (sym test ∙ inside)
 
-  module _ (inside : b ≡ false) {c : Constants} (is : v ≡ answer c) where
-    pub by-guantian : system ≡ 1 → c ≡ guantian → v ≡ answerOfSystem system answer blank
-    by-guantian e f = picked answer system (picks-guantian system e ∙ sym f) is ∙ simp (sym test ∙ inside)
-
-    pub by-jiyuan : (system ≡ 1 → ⊥) → c ≡ jiyuan → v ≡ answerOfSystem system answer blank
-    by-jiyuan e f = picked answer system (picks-jiyuan system e ∙ sym f) is ∙ simp (sym test ∙ inside)
+-- A request by system and year is refused SYSTEM or goes on by the system's constants, and then refused YEAR or answered.
+pub system-then-year : {A : Type 0} (answer : Constants → ℕ → A) (blank : ℕ → A) (system year : ℕ)
+    → answerOfSystem system (λ c. answerOfYear c year answer blank) blank
+    ≡ answerUnless (yearRefusal system year) system year answer blank
+unfolding yearRefusal
+system-then-year answer blank system year =
+    by-inside 1 lastSystem system
+    (λ e out. simp e)
+    (λ e into. by-inside 1 3000 year (λ f out. simp (e, f)) (λ f into. simp (e, f)))
 
 pub in-register-here : (system year : ℕ) (c : Constants) → constantsOf system ≡ c → yearRefusal system year ≡ 0
     → YearInRegister c (yearsElapsed c year)

@@ -3,6 +3,8 @@
 pub mod RefusalCases
 -- Years in scope keep the bounds.
 pub mod ScopeInRegister
+-- The constants that a system's number picks.
+pub mod Picking
 -- How an answer follows from what was asked.
 pub mod AnswerUnless
 -- Equal steps of a year, as the code has them.

@@ -16,12 +16,13 @@ use Rattle.calendar.proofs.EveryCalendar.{Within, within-of-qi}
 use Rattle.reckoning.specs.declared.data.Month.{Month}
 use Rattle.reckoning.specs.declared.month_spans.MonthSpan.{MonthSpan}
 use Rattle.reckoning.specs.MonthSpans.{monthSpan}
+use Rattle.reckoning.specs.Scope.{InScope}
 use Rattle.reckoning.specs.WordBounds.{SpanFits, InRegister, YearInRegister}
 use Rattle.reckoning.specs.ComputedRefusals.{outside, yearRefusal, monthWrong, leapWrong}
-use Rattle.reckoning.proofs.RefusalCases.{inside-of}
-use Rattle.reckoning.specs.Requests.{monthAt, noMonthTelling, noMonth, monthIn, monthTelling, monthOf}
-use Rattle.reckoning.specs.RefusalNumbers.{MONTH, LEAP}
-use Rattle.reckoning.proofs.AnswerUnless.{answered-here}
+use Rattle.reckoning.proofs.RefusalCases.{inside-of, by-scope}
+use Rattle.reckoning.specs.Requests.{answerUnless, monthAt, noMonthTelling, noMonth, monthIn, monthSilent, monthTelling, monthOf}
+use Rattle.reckoning.specs.RefusalNumbers.{SYSTEM, YEAR, MONTH, LEAP}
+use Rattle.reckoning.proofs.AnswerUnless.{refused-year, answered-year}
 use Rattle.reckoning.proofs.MonthSpanLaws.{span-fits}
 
 module _ (c : Constants) (n number leap told : ℕ) where
@@ -72,26 +73,55 @@ module _ (c : Constants) (n number leap told : ℕ) where
       (λ e. by-bool (leapWrong c n number leap) (λ f. absurd (other (simp (e, f)))) (λ f. simp (e, f)))
 
 -- The whole request, from the month found and what is told.
-module _ (system year number leap : ℕ) (z : yearRefusal system year ≡ 0) where
-  abbrev c : Constants
-  c = constantsOf system
+module _ (system year number leap : ℕ) {m : Month}
+    (is : m ≡ answerUnless (yearRefusal system year) system year (monthSilent number leap) noMonth)
+  where
+    abbrev c : Constants
+    c = constantsOf system
 
-  abbrev n : ℕ
-  n = yearsElapsed c year
+    abbrev n : ℕ
+    n = yearsElapsed c year
 
-  answered : monthTelling number leap c n ≡ monthOf system year number leap
-  unfolding monthOf
-  answered = answered-here (monthTelling number leap) noMonth system year c refl z
+    -- refused by system or year, with that number
+    refused-alike : (refusal : ℕ) → yearRefusal system year ≡ refusal → 0 < refusal
+        → (m .refusal ≡ refusal) × (m ≡ monthOf system year number leap)
+    unfolding monthOf
+    refused-alike refusal e some =
+        let blank = refused-year (monthSilent number leap) noMonth system year refusal e some in
+        let other = refused-year (monthTelling number leap) noMonth system year refusal e some in
+        (ap (λ x. x .refusal) (is ∙ blank), is ∙ blank ∙ sym other)
 
-  module _ {m : Month} (is : m ≡ monthIn c n number leap 0) where
+    found-is : InScope system year → m ≡ monthIn c n number leap 0
+    found-is s = is ∙ sym (answered-year (monthSilent number leap) noMonth system year s)
+
+    answered : InScope system year → monthTelling number leap c n ≡ monthOf system year number leap
+    unfolding monthOf
+    answered s = answered-year (monthTelling number leap) noMonth system year s
+
+    -- LEAP is refused in scope only
+    pub silent-in-scope : m .refusal ≡ LEAP → InScope system year
+    silent-in-scope l =
+        by-scope system year
+        (λ no-system e. absurd (omega (arith, refused-alike SYSTEM e (omega arith))))
+        (λ s no-year e. absurd (omega (arith, refused-alike YEAR e (omega arith))))
+        (λ s. s)
+
     pub leap-told : {told : ℕ} → m .refusal ≡ LEAP → told ≡ leapNumber c n
         → noMonthTelling LEAP told ≡ monthOf system year number leap
     leap-told l t =
-        ap (noMonthTelling LEAP) t ∙ telling c n number leap (leapNumber c n) (sym (ap (λ x. x .refusal) is) ∙ l) ∙ answered
+        let s = silent-in-scope l in
+        ap (noMonthTelling LEAP) t
+        ∙ telling c n number leap (leapNumber c n) (sym (ap (λ x. x .refusal) (found-is s)) ∙ l)
+        ∙ answered s
 
     pub month-answered : (m .refusal ≡ LEAP → ⊥) → m ≡ monthOf system year number leap
     month-answered l =
-        is ∙ telling-nothing c n number leap (leapNumber c n) (λ e. l (ap (λ x. x .refusal) is ∙ e)) ∙ answered
+        by-scope system year
+        (λ no-system e. refused-alike SYSTEM e (omega arith) .1)
+        (λ s no-year e. refused-alike YEAR e (omega arith) .1)
+        (λ s.
+        let found = found-is s in
+        found ∙ telling-nothing c n number leap (leapNumber c n) (λ e. l (ap (λ x. x .refusal) found ∙ e)) ∙ answered s)
 
 -- Months of a year within the register, and whether a leap month follows one of them.
 module _ {c : Constants} {n : ℕ} (r : YearInRegister c n) (number : ℕ) {m : MonthSpan}

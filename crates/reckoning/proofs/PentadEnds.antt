@@ -2,7 +2,7 @@
 use Prim.Native.Nat.{ℕ, _/_, _%_}
 use mathlib.Core.Path.{_≡_, refl, subst, sym, _∙_}
 use native.Mathlib.Omega.{arith}
-use Rattle.calendar.specs.Systems.{constantsOf, yearsElapsed, countDay}
+use Rattle.calendar.specs.Systems.{lastSystem, constantsOf, yearsElapsed, countDay}
 use Rattle.calendar.specs.Steps.{solsticeDay}
 use Rattle.calendar.specs.Pentad.{InForce, InSolarYear}
 use Rattle.calendar.specs.ClosedForms.{pentadOn}
@@ -41,7 +41,7 @@ pub pentad-outcome : (system r : ℕ) → O.PentadOutcome system r (pentadInForc
 unfolding pentadInForce inForceIn
 pentad-outcome system r =
     let c = constantsOf system in
-    by-inside 1 2 system
+    by-inside 1 lastSystem system
     (λ e no-system. O.PentadOutcome.system-refused no-system (simp e))
     (λ e system-inside.
     by-years (solsticeDay c) c r

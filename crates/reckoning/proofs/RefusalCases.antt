@@ -6,8 +6,9 @@ use lib.Dec.{ltb}
 use native.Mathlib.Omega.{arith}
 use borrow.Author.Tests.{ltb-false, lt-ltb, le-ltb}
 use Rattle.calendar.specs.Inside.{Inside}
+use Rattle.calendar.specs.Systems.{lastSystem}
 use Rattle.reckoning.specs.Scope.{SystemInScope, YearInScope, InScope}
-use Rattle.reckoning.specs.ComputedRefusals.{outside, yearRefusal, stepRefusal}
+use Rattle.reckoning.specs.ComputedRefusals.{outside, noSuchSystem, yearRefusal, stepRefusal}
 use Rattle.reckoning.specs.RefusalNumbers.{SYSTEM, YEAR, STEP}
 
 -- Where no rule gave a number, the first did not apply, nor did any other.
@@ -30,13 +31,13 @@ inside least most x h = simp (le-ltb x least (h .at-least), le-ltb most x (h .at
 pub accepted : (system year : ℕ) → yearRefusal system year ≡ 0 → InScope system year
 unfolding yearRefusal
 accepted system year e =
-    let system-right = passed SYSTEM (outside 1 2 system) (cond (outside 1 3000 year) YEAR 0) (omega arith) e in
+    let system-right = passed SYSTEM (noSuchSystem system) (cond (outside 1 3000 year) YEAR 0) (omega arith) e in
     let year-right = passed YEAR (outside 1 3000 year) 0 (omega arith) (system-right .1) in
-    record { system-inside = inside-of 1 2 system (system-right .0); year-inside = inside-of 1 3000 year (year-right .0) }
+    record { system-inside = inside-of 1 lastSystem system (system-right .0); year-inside = inside-of 1 3000 year (year-right .0) }
 
 pub in-scope : (system year : ℕ) → InScope system year → yearRefusal system year ≡ 0
 unfolding yearRefusal
-in-scope system year s = simp (inside 1 2 system (s .system-inside), inside 1 3000 year (s .year-inside))
+in-scope system year s = simp (inside 1 lastSystem system (s .system-inside), inside 1 3000 year (s .year-inside))
 
 pub not-inside : (least most x : ℕ) → outside least most x ≡ true → Inside least most x → ⊥
 not-inside least most x e h = true≢false (sym e ∙ inside least most x h)
@@ -62,7 +63,7 @@ pub by-scope : {P : Type 0} (system year : ℕ)
     → P
 unfolding yearRefusal
 by-scope system year no-such-system no-such-year scope =
-    by-inside 1 2 system
+    by-inside 1 lastSystem system
     (λ e outside-systems. no-such-system outside-systems (simp e))
     (λ e system-inside.
     by-inside 1 3000 year
@@ -71,15 +72,15 @@ by-scope system year no-such-system no-such-year scope =
 
 -- What a request is refused, from the tests passed before.
 module _ (system year : ℕ) where
-  pub refused-system : outside 1 2 system ≡ true → SYSTEM ≡ yearRefusal system year
+  pub refused-system : noSuchSystem system ≡ true → SYSTEM ≡ yearRefusal system year
   unfolding yearRefusal
   refused-system e = simp e
 
-  pub refused-year : outside 1 2 system ≡ false → outside 1 3000 year ≡ true → YEAR ≡ yearRefusal system year
+  pub refused-year : noSuchSystem system ≡ false → outside 1 3000 year ≡ true → YEAR ≡ yearRefusal system year
   unfolding yearRefusal
   refused-year e f = simp (e, f)
 
-  pub not-refused : outside 1 2 system ≡ false → outside 1 3000 year ≡ false → _≡_ {A = ℕ} 0 (yearRefusal system year)
+  pub not-refused : noSuchSystem system ≡ false → outside 1 3000 year ≡ false → _≡_ {A = ℕ} 0 (yearRefusal system year)
   unfolding yearRefusal
   not-refused e f = simp (e, f)
 
@@ -87,7 +88,7 @@ module _ (system year : ℕ) where
 module _ (most system year i : ℕ) where
   pub step-unseen : (yearRefusal system year ≡ 0 → ⊥) → yearRefusal system year ≡ stepRefusal most system year i
   unfolding yearRefusal stepRefusal
-  step-unseen h = either (outside 1 2 system) (outside 1 3000 year) h
+  step-unseen h = either (noSuchSystem system) (outside 1 3000 year) h
     where
       either : (a b : Bool) → (_≡_ {A = ℕ} (cond a SYSTEM (cond b YEAR 0)) 0 → ⊥)
           → _≡_ {A = ℕ} (cond a SYSTEM (cond b YEAR 0)) (cond a SYSTEM (cond b YEAR (cond (ltb most i) STEP 0)))
@@ -99,26 +100,26 @@ module _ (most system year i : ℕ) where
   unfolding stepRefusal
   step-seen e =
       let s = accepted system year e in
-      simp (inside 1 2 system (s .system-inside), inside 1 3000 year (s .year-inside))
+      simp (inside 1 lastSystem system (s .system-inside), inside 1 3000 year (s .year-inside))
 
   pub accepted-step : stepRefusal most system year i ≡ 0 → InScope system year × (i ≤ most)
   unfolding stepRefusal
   accepted-step e =
       let system-right =
-      passed SYSTEM (outside 1 2 system) (cond (outside 1 3000 year) YEAR (cond (ltb most i) STEP 0)) (omega arith) e
+      passed SYSTEM (noSuchSystem system) (cond (outside 1 3000 year) YEAR (cond (ltb most i) STEP 0)) (omega arith) e
       in
       let year-right = passed YEAR (outside 1 3000 year) (cond (ltb most i) STEP 0) (omega arith) (system-right .1) in
       let step-right = passed STEP (ltb most i) 0 (omega arith) (year-right .1) in (
-        record { system-inside = inside-of 1 2 system (system-right .0); year-inside = inside-of 1 3000 year (year-right .0) },
+        record { system-inside = inside-of 1 lastSystem system (system-right .0); year-inside = inside-of 1 3000 year (year-right .0) },
         ltb-false most i (step-right .0),
       )
 
   pub in-scope-step : InScope system year → i ≤ most → stepRefusal most system year i ≡ 0
   unfolding stepRefusal
   in-scope-step s h =
-      simp (inside 1 2 system (s .system-inside), inside 1 3000 year (s .year-inside), le-ltb most i h)
+      simp (inside 1 lastSystem system (s .system-inside), inside 1 3000 year (s .year-inside), le-ltb most i h)
 
   pub step-refused : InScope system year → most < i → stepRefusal most system year i ≡ STEP
   unfolding stepRefusal
   step-refused s h =
-      simp (inside 1 2 system (s .system-inside), inside 1 3000 year (s .year-inside), lt-ltb most i h)
+      simp (inside 1 lastSystem system (s .system-inside), inside 1 3000 year (s .year-inside), lt-ltb most i h)

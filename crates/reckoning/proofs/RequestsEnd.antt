@@ -5,7 +5,7 @@ use mathlib.Core.Bool.{true, false, true≢false}
 use mathlib.Core.Logic.{inl, inr, ⊎-elim}
 use native.Mathlib.Omega.{arith}
 use Rattle.calendar.specs.Inside.{Inside}
-use Rattle.calendar.specs.Systems.{constantsOf, yearsElapsed, IsRegisterDay, countDay}
+use Rattle.calendar.specs.Systems.{lastSystem, constantsOf, yearsElapsed, IsRegisterDay, countDay}
 use Rattle.calendar.specs.Month.{monthHead}
 use Rattle.calendar.specs.Year.{DayOfYear, MonthNumbered, HasLeap}
 use Rattle.calendar.specs.ClosedForms.{monthOfDay, yearOfMonth, headOfYear, monthNumber, leapMark, monthCited, leapFollows}
@@ -180,7 +180,7 @@ found-date system r system-inside p =
 pub date-outcome : (system r : ℕ) → O.DateOutcome system r (dateOf system r)
 unfolding dateOf dateIn
 date-outcome system r =
-    by-inside 1 2 system
+    by-inside 1 lastSystem system
     (λ e no-system. O.DateOutcome.system-refused no-system (simp e))
     (λ e system-inside.
     by-day-scope system r

@@ -5,7 +5,7 @@ use mathlib.Core.Bool.{Bool, cond, not, _&&_, _||_}
 use mathlib.Core.List.{List, [], _∷_}
 use lib.Dec.{ltb, leb, eqb}
 use Rattle.calendar.specs.declared.data.Constants.{Constants}
-use Rattle.calendar.specs.Systems.{yearsElapsed}
+use Rattle.calendar.specs.Systems.{lastSystem, yearsElapsed}
 use Rattle.calendar.specs.Steps.{solsticeDay}
 use Rattle.calendar.specs.ClosedForms.{headOfYear, leapFollows}
 use Rattle.reckoning.specs.Divisions.{qis, pentads}
@@ -26,11 +26,17 @@ abbrev pub outside : ℕ → ℕ → ℕ → Bool
 outside least most x = ltb x least || ltb most x
 
 -- Refusals SYSTEM, YEAR and STEP.
+abbrev pub noSuchSystem : ℕ → Bool
+noSuchSystem system = outside 1 lastSystem system
+
 abbrev pub wrongSystem : ℕ → Rule
-wrongSystem system = SYSTEM if outside 1 2 system
+wrongSystem system = SYSTEM if noSuchSystem system
+
+abbrev pub outOfYears : ℕ → Bool
+outOfYears year = outside 1 3000 year
 
 abbrev pub wrongYear : ℕ → Rule
-wrongYear year = YEAR if outside 1 3000 year
+wrongYear year = YEAR if outOfYears year
 
 abbrev pub wrongStep : ℕ → ℕ → Rule
 wrongStep most i = STEP if ltb most i

@@ -6,7 +6,7 @@ use lib.Dec.{eqb}
 use lib.ListN.{replicate}
 use Rattle.calendar.specs.declared.data.Constants.{Constants}
 use Rattle.calendar.specs.declared.data.RegisterDay.{RegisterDay}
-use Rattle.calendar.specs.Systems.{constantsOf, registerDay, countDay}
+use Rattle.calendar.specs.Systems.{constantsOf, yearsElapsed, registerDay, countDay}
 use Rattle.calendar.specs.SixtyDayName.{nameOf}
 use Rattle.calendar.specs.Steps.{solsticeDay, solsticeRemainder, moment, dayOf, partsOf, unitsOf}
 use Rattle.calendar.specs.Month.{monthHead}
@@ -22,9 +22,9 @@ use Rattle.reckoning.specs.declared.data.Month.{Month}
 use Rattle.reckoning.specs.declared.data.YearHead.{YearHead}
 use Rattle.reckoning.specs.declared.data.Days.{Days}
 use Rattle.reckoning.specs.declared.data.Date.{Date}
-use Rattle.reckoning.specs.ComputedRefusals.{outside, yearRefusal, stepRefusal}
+use Rattle.reckoning.specs.ComputedRefusals.{noSuchSystem, outOfYears, yearRefusal, stepRefusal}
 use Rattle.reckoning.specs.ComputedRefusals.{monthWrong, leapWrong, dayWrong, solarDayWrong}
-use Rattle.reckoning.specs.RefusalNumbers.{SYSTEM, MONTH, DAY, LEAP}
+use Rattle.reckoning.specs.RefusalNumbers.{SYSTEM, YEAR, MONTH, DAY, LEAP}
 use Rattle.reckoning.specs.Asked.{askedOf}
 use Rattle.reckoning.specs.Divisions.{Division, qis, pentads}
 use Rattle.reckoning.specs.CommonYears.{commonYear}
@@ -44,7 +44,11 @@ answerUnless refusal system year answer blank = answerTo (askedOf refusal system
 
 -- A request by system and register day: refused SYSTEM where there is no such system, or answered by its constants.
 abbrev pub answerOfSystem : {A : Type 0} → ℕ → (Constants → A) → (ℕ → A) → A
-answerOfSystem system answer blank = cond (outside 1 2 system) (blank SYSTEM) (answer (constantsOf system))
+answerOfSystem system answer blank = cond (noSuchSystem system) (blank SYSTEM) (answer (constantsOf system))
+
+-- A request by year, of a system's constants: refused YEAR where the year is out of scope, or answered.
+abbrev pub answerOfYear : {A : Type 0} → Constants → ℕ → (Constants → ℕ → A) → (ℕ → A) → A
+answerOfYear c year answer blank = cond (outOfYears year) (blank YEAR) (answer c (yearsElapsed c year))
 
 -- The solstice of year n. Refused: zeros.
 abbrev pub solsticeIn : Constants → ℕ → Solstice
@@ -183,6 +187,10 @@ monthIn c n number leap told =
     (cond (leapWrong c n number leap)
     (noMonthTelling LEAP told)
     (monthAt c (monthCited c n number leap)))
+
+-- The same with nothing told.
+abbrev pub monthSilent : ℕ → ℕ → Constants → ℕ → Month
+monthSilent number leap c n = monthIn c n number leap 0
 
 -- What LEAP tells is the number of the year's leap month.
 abbrev pub monthTelling : ℕ → ℕ → Constants → ℕ → Month

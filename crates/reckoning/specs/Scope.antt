@@ -5,13 +5,13 @@ use mathlib.Core.Path.{_≡_}
 use mathlib.Core.Logic.{_⊎_}
 use Rattle.calendar.specs.declared.data.Constants.{Constants}
 use Rattle.calendar.specs.Inside.{Inside}
-use Rattle.calendar.specs.Systems.{constantsOf, yearsElapsed, IsRegisterDay}
+use Rattle.calendar.specs.Systems.{lastSystem, constantsOf, yearsElapsed, IsRegisterDay}
 use Rattle.calendar.specs.Steps.{solsticeDay}
 use Rattle.calendar.specs.Year.{Span, yearHead, HasLeap}
 
 -- Refusal SYSTEM is for any other system,
 abbrev pub SystemInScope : ℕ → Type 0
-SystemInScope system = Inside 1 2 system
+SystemInScope system = Inside 1 lastSystem system
 
 -- and refusal YEAR for any other year.
 abbrev pub YearInScope : ℕ → Type 0

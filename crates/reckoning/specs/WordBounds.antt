@@ -3,11 +3,13 @@
 use Prim.Native.Nat.{ℕ, _+_, _*_, _^_, _≤_, _<_}
 use mathlib.Core.Path.{_≡_}
 use Rattle.calendar.specs.declared.data.Constants.{Constants}
+use Rattle.calendar.specs.Systems.{yearsElapsed}
 use Rattle.calendar.specs.Steps.{solstice, solsticeDay, moment, dayOf}
 use Rattle.calendar.specs.Month.{monthHead}
 use Rattle.calendar.specs.Consistent.{Consistent}
 use Rattle.calendar.specs.ClosedForms.{firstMonth, headOfYear}
 use Rattle.reckoning.specs.declared.month_spans.MonthSpan.{MonthSpan}
+use Rattle.reckoning.specs.Scope.{YearInScope}
 use Rattle.reckoning.specs.MonthSpans.{monthSpan}
 
 -- Products of the constants with counts of months, days, years and steps of a year, up to 72.
@@ -52,6 +54,11 @@ pub record YearInRegister (c : Constants) (n : ℕ) : Type 0 where
   pub solstice-day : InRegister c (solsticeDay c n)
   pub next-solstice-day : InRegister c (solsticeDay c (n + 1))
   pub head : (k : ℕ) → firstMonth c n ≤ k → k ≤ firstMonth c (n + 1) → InRegister c (monthHead c k)
+
+-- Every year in scope does.
+pub record YearsInRegister (c : Constants) : Type 0 where
+  pub constants-fit : ConstantsFit c
+  pub in-register : (year : ℕ) → YearInScope year → YearInRegister c (yearsElapsed c year)
 
 -- Step i of year n, of s equal ones, in units of which a part has u.
 pub record StepFits (c : Constants) (s u n i : ℕ) : Type 0 where

@@ -7,6 +7,7 @@ use crate::closed_forms::years_elapsed;
 use crate::refusal;
 use calendar::data::Constants;
 use calendar::systems::guantian;
+use calendar::systems::jingchu;
 use calendar::systems::jiyuan;
 
 // Its refusal number, the system's constants and the years elapsed.
@@ -16,12 +17,16 @@ pub(crate) struct Asked {
     pub n: u64,
 }
 
-// The constants that a system's number picks. A number that is neither 1 nor 2 picks Jiyuan's, and its request is
+// The constants that a system's number picks. One that is no system's picks the first system's, and its request is
 // refused.
 fn constants_of(system: u32) -> Constants
     ensures { λ r. ⌜ r ≡ constantsOf system ⌝ }
 {
-    if system == 1 { guantian() } else { jiyuan() }
+    match system {
+        2 => jiyuan(),
+        3 => jingchu(),
+        _ => guantian(),
+    }
 }
 
 fn ask(refusal: u8, system: u32, year: u32) -> Asked

@@ -7,12 +7,14 @@ ghost use mathlib.Core.Path.{_≡_};
 ghost use Rattle.calendar.specs.Systems.{constantsOf, yearsElapsed};
 ghost use Rattle.calendar.specs.SixtyDayName.{nameOf};
 ghost use Rattle.calendar.specs.LeapMonth.{leapNumber};
+ghost use Rattle.reckoning.specs.Scope.{InScope};
 ghost use Rattle.reckoning.specs.ComputedRefusals.{yearRefusal};
 ghost use Rattle.reckoning.specs.Requests.{solsticeOf, qiOf, pentadOf, yearOf, sheetOf, daysOf, yearHeadOf};
-ghost use Rattle.reckoning.specs.Requests.{monthIn, monthOf, dateOf, pentadInForce};
+ghost use Rattle.reckoning.specs.Requests.{answerUnless, noMonth, monthSilent, monthOf, dateOf, pentadInForce};
 use calendar::data::DayName;
 use calendar::data::RegisterDay;
 use calendar::systems::guantian;
+use calendar::systems::jingchu;
 use calendar::systems::jiyuan;
 use data::Date;
 use data::Days;
@@ -24,6 +26,7 @@ use data::Solstice;
 use data::Year;
 use data::YearHead;
 use refusal_numbers::LEAP;
+use refusal_numbers::SYSTEM;
 
 mod asked;
 mod closed_forms;
@@ -117,53 +120,44 @@ pub fn days(system: u32, year: u32) -> Days
     year_days::of_year(system, asked.c, year)
 }
 
-// Below are what a citation asks (a year's head, a month, a date) and the pentad in force. They call once for each
-// system, so that the compiler knows the constants and need not divide by variables.
+// Below are what a citation asks (a year's head, a month, a date) and the pentad in force. They name the systems one by
+// one, so that the compiler knows the constants and need not divide by variables: a system more is an arm more in each.
 
 // The head of a year, reckoned even where it is printed: among the code of the storing step the compiler makes a jump of
 // the read from the page, which takes longer.
 pub fn reckoned_head(system: u32, year: u32) -> YearHead
     ensures { λ r. ⌜ r ≡ yearHeadOf system year ⌝ }
 {
-    let refusal = refusal::of_year(system, year);
-    if refusal != 0 {
-        return YearHead {
-            refusal: refusal,
-            day: RegisterDay(0),
-        };
-    }
-    if system == 1 {
-        return YearHead {
-            refusal: 0,
-            day: year_heads::reckoned(guantian(), year),
-        };
-    }
-    YearHead {
-        refusal: 0,
-        day: year_heads::reckoned(jiyuan(), year),
+    match system {
+        1 => year_heads::of_common_year(guantian(), year),
+        2 => year_heads::of_common_year(jiyuan(), year),
+        3 => year_heads::of_common_year(jingchu(), year),
+        _ => year_heads::none(SYSTEM),
     }
 }
 
 // The number of a year's leap month; 0 where it has none.
 fn leap_month(system: u32, year: u32) -> u8
-    requires { ⌜ yearRefusal system year ≡ 0 ⌝ }
+    requires { ⌜ InScope system year ⌝ }
     ensures { λ r. ⌜ r ≡ leapNumber (constantsOf system) (yearsElapsed (constantsOf system) year) ⌝ }
 {
-    if system == 1 {
-        return leap_months::number_of_common_year(guantian(), year);
+    match system {
+        2 => leap_months::number_of_common_year(jiyuan(), year),
+        3 => leap_months::number_of_common_year(jingchu(), year),
+        _ => leap_months::number_of_common_year(guantian(), year),
     }
-    leap_months::number_of_common_year(jiyuan(), year)
 }
 
 // The month of a year with a number and a leap mark, as `month` has it, but with nothing told.
 fn month_found(system: u32, year: u32, number: u32, leap: u32) -> Month
-    requires { ⌜ yearRefusal system year ≡ 0 ⌝ }
-    ensures { λ r. ⌜ r ≡ monthIn (constantsOf system) (yearsElapsed (constantsOf system) year) number leap 0 ⌝ }
+    ensures { λ r. ⌜ r ≡ answerUnless (yearRefusal system year) system year (monthSilent number leap) noMonth ⌝ }
 {
-    if system == 1 {
-        return months::month_of_common_year(guantian(), year, number, leap);
+    match system {
+        1 => months::of_common_year(guantian(), year, number, leap),
+        2 => months::of_common_year(jiyuan(), year, number, leap),
+        3 => months::of_common_year(jingchu(), year, number, leap),
+        _ => months::none(SYSTEM),
     }
-    months::month_of_common_year(jiyuan(), year, number, leap)
 }
 
 // The month of a year with a number and a leap mark; refused MONTH where the number is not 1 to 12 or the mark not 0 or
@@ -171,10 +165,6 @@ fn month_found(system: u32, year: u32, number: u32, leap: u32) -> Month
 pub fn month(system: u32, year: u32, number: u32, leap: u32) -> Month
     ensures { λ r. ⌜ r ≡ monthOf system year number leap ⌝ }
 {
-    let refusal = refusal::of_year(system, year);
-    if refusal != 0 {
-        return months::none(refusal);
-    }
     let month = month_found(system, year, number, leap);
     if month.refusal == LEAP {
         return months::none_telling(LEAP, leap_month(system, year));
@@ -186,13 +176,12 @@ pub fn month(system: u32, year: u32, number: u32, leap: u32) -> Month
 pub fn date(system: u32, day: RegisterDay) -> Date
     ensures { λ r. ⌜ r ≡ dateOf system (day .0) ⌝ }
 {
-    if refusal::outside(1, 2, system) {
-        return dates::none(refusal_numbers::SYSTEM);
+    match system {
+        1 => dates::of_day(guantian(), day),
+        2 => dates::of_day(jiyuan(), day),
+        3 => dates::of_day(jingchu(), day),
+        _ => dates::none(SYSTEM),
     }
-    if system == 1 {
-        return dates::of_day(guantian(), day);
-    }
-    dates::of_day(jiyuan(), day)
 }
 
 // The pentad in force at the end of a register day; refused DAY outside years 1 to 3000, counted from solstice to
@@ -200,13 +189,12 @@ pub fn date(system: u32, day: RegisterDay) -> Date
 pub fn pentad_in_force(system: u32, day: RegisterDay) -> PentadInForce
     ensures { λ r. ⌜ r ≡ pentadInForce system (day .0) ⌝ }
 {
-    if refusal::outside(1, 2, system) {
-        return pentads::none(refusal_numbers::SYSTEM);
+    match system {
+        1 => pentads::of_day(guantian(), day),
+        2 => pentads::of_day(jiyuan(), day),
+        3 => pentads::of_day(jingchu(), day),
+        _ => pentads::none(SYSTEM),
     }
-    if system == 1 {
-        return pentads::of_day(guantian(), day);
-    }
-    pentads::of_day(jiyuan(), day)
 }
 
 // The sixty-day name of a register day.

@@ -2,8 +2,8 @@
 ghost use mathlib.Core.Path.{_≡_};
 ghost use Rattle.calendar.specs.Systems.{constantsOf, yearsElapsed};
 ghost use Rattle.reckoning.specs.MonthSpans.{monthSpan};
-ghost use Rattle.reckoning.specs.Requests.{headAt, monthsFrom, yearIn, monthAt, noMonthTelling, noMonth, monthIn};
-ghost use Rattle.reckoning.specs.WordBounds.{InRegister, SpanFits, MonthsInRegister, YearInRegister};
+ghost use Rattle.reckoning.specs.Requests.{answerOfYear, headAt, monthsFrom, yearIn, monthAt, noMonthTelling, noMonth, monthIn, monthSilent};
+ghost use Rattle.reckoning.specs.WordBounds.{InRegister, SpanFits, MonthsInRegister, YearInRegister, YearsInRegister};
 use crate::closed_forms::day_of_qi;
 use crate::closed_forms::number_of_qi;
 use crate::closed_forms::register_day;
@@ -14,9 +14,11 @@ use crate::month_spans::MonthSpan;
 use crate::month_spans::after;
 use crate::month_spans::last_qi;
 use crate::month_spans::of_qi;
+use crate::refusal::out_of_years;
 use crate::refusal::outside;
 use crate::refusal_numbers::LEAP;
 use crate::refusal_numbers::MONTH;
+use crate::refusal_numbers::YEAR;
 use crate::year_heads::first_month;
 use calendar::data::Constants;
 use calendar::data::RegisterDay;
@@ -120,9 +122,12 @@ fn month_of_year(c: Constants, n: u64, number: u32, leap: u32) -> Month
     at(c, next)
 }
 
-pub(crate) fn month_of_common_year(c: Constants, year: u32, number: u32, leap: u32) -> Month
-    requires { ⌜ YearInRegister c (yearsElapsed c year) ⌝ }
-    ensures { λ r. ⌜ r ≡ monthIn c (yearsElapsed c year) number leap 0 ⌝ }
+pub(crate) fn of_common_year(c: Constants, year: u32, number: u32, leap: u32) -> Month
+    requires { ⌜ YearsInRegister c ⌝ }
+    ensures { λ r. ⌜ r ≡ answerOfYear c year (monthSilent number leap) noMonth ⌝ }
 {
+    if out_of_years(year) {
+        return none(YEAR);
+    }
     month_of_year(c, years_elapsed(c, year), number, leap)
 }

@@ -1,10 +1,11 @@
 // Numbered refusals of the requests by system and year: `of_` functions give the first that applies, or 0. DAY is told by
 // the year of a day (`closed_forms::out_of_scope`).
 ghost use mathlib.Core.Path.{_≡_};
-ghost use Rattle.reckoning.specs.ComputedRefusals.{outside, yearRefusal, stepRefusal};
+ghost use Rattle.reckoning.specs.ComputedRefusals.{outside, outOfYears, yearRefusal, stepRefusal};
 use crate::refusal_numbers::STEP;
 use crate::refusal_numbers::SYSTEM;
 use crate::refusal_numbers::YEAR;
+use calendar::systems::LAST;
 
 // x is not `least` to `most`.
 pub fn outside(least: u32, most: u32, x: u32) -> bool
@@ -13,13 +14,20 @@ pub fn outside(least: u32, most: u32, x: u32) -> bool
     x < least || most < x
 }
 
+// A year is not in scope.
+pub(crate) fn out_of_years(year: u32) -> bool
+    ensures { λ r. ⌜ r ≡ outOfYears year ⌝ }
+{
+    outside(1, 3000, year)
+}
+
 pub(crate) fn of_year(system: u32, year: u32) -> u8
     ensures { λ r. ⌜ r ≡ yearRefusal system year ⌝ }
 {
-    if outside(1, 2, system) {
+    if outside(1, LAST, system) {
         return SYSTEM;
     }
-    if outside(1, 3000, year) {
+    if out_of_years(year) {
         return YEAR;
     }
     0

@@ -5,13 +5,17 @@ ghost use Rattle.calendar.specs.Systems.{constantsOf, yearsElapsed};
 ghost use Rattle.calendar.specs.Month.{monthHead};
 ghost use Rattle.calendar.specs.ClosedForms.{monthOfDay, firstMonth, registerHead};
 ghost use Rattle.reckoning.specs.MonthSpans.{monthSpan};
-ghost use Rattle.reckoning.specs.WordBounds.{ConstantsFit, HeadInRegister};
+ghost use Rattle.reckoning.specs.Requests.{answerOfYear, yearHeadIn, noYearHead};
+ghost use Rattle.reckoning.specs.WordBounds.{ConstantsFit, HeadInRegister, YearsInRegister};
 use crate::closed_forms::count_day;
 use crate::closed_forms::register_day;
 use crate::closed_forms::years_elapsed;
+use crate::data::YearHead;
 use crate::month_spans::MonthSpan;
 use crate::month_spans::first_of_year;
 use crate::month_spans::of_day;
+use crate::refusal::out_of_years;
+use crate::refusal_numbers::YEAR;
 use calendar::data::Constants;
 use calendar::data::RegisterDay;
 use printed_heads::Printed;
@@ -23,6 +27,29 @@ pub(crate) fn reckoned(c: Constants, year: u32) -> RegisterDay
 {
     let first = first_of_year(c, years_elapsed(c, year));
     register_day(c, first.head)
+}
+
+pub(crate) fn none(refusal: u8) -> YearHead
+    ensures { λ r. ⌜ r ≡ noYearHead refusal ⌝ }
+{
+    YearHead {
+        refusal: refusal,
+        day: RegisterDay(0),
+    }
+}
+
+// The head of a year, reckoned; refused YEAR outside years 1 to 3000.
+pub(crate) fn of_common_year(c: Constants, year: u32) -> YearHead
+    requires { ⌜ YearsInRegister c ⌝ }
+    ensures { λ r. ⌜ r ≡ answerOfYear c year yearHeadIn noYearHead ⌝ }
+{
+    if out_of_years(year) {
+        return none(YEAR);
+    }
+    YearHead {
+        refusal: 0,
+        day: reckoned(c, year),
+    }
 }
 
 // The register day of a year's head, as it is printed or else reckoned.

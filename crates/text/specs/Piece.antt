@@ -3,6 +3,7 @@ use Prim.Native.Nat.{ℕ, zero, suc}
 use mathlib.Core.Bool.{cond}
 use mathlib.Core.List.{List, [], _∷_, _++_}
 use lib.Dec.{eqb}
+use lib.ListN.{getD}
 use Rattle.text.specs.Decimal.{decimal}
 
 -- A word, as its bytes.
@@ -29,9 +30,9 @@ newline = 10 ∷ []
 abbrev pub line : List ℕ → List ℕ → List ℕ
 line bytes numbers = word bytes ++ (fields numbers ++ newline)
 
--- The letter of a system, G or J; '?' of a number that is no system's.
+-- The letter of a system by its number: G of Guantian, J of Jiyuan, W of Jingchu; '?' of a number that is no system's.
 abbrev pub letterOf : ℕ → ℕ
-letterOf system = cond (eqb system 1) 71 (cond (eqb system 2) 74 63)
+letterOf system = getD (63 ∷ 71 ∷ 74 ∷ 87 ∷ []) system 63
 
 -- A year of a system: its letter and the year.
 unfoldable pub year : ℕ → ℕ → List ℕ

@@ -60,13 +60,12 @@ pub fn field(out: &mut [u8], at: usize, n: u32) -> usize
 pub fn letter_of(system: u32) -> u8
     ensures { λ r. ⌜ r ≡ letterOf system ⌝ }
 {
-    if system == 1 {
-        return b'G';
+    match system {
+        1 => b'G',
+        2 => b'J',
+        3 => b'W',
+        _ => b'?',
     }
-    if system == 2 {
-        return b'J';
-    }
-    b'?'
 }
 
 // A system's letter, a space and a year.

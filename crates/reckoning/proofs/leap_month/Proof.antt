@@ -1,49 +1,57 @@
-use mathlib.Core.Path.{_≡_, sym, _∙_}
-use Rattle.calendar.specs.Systems.{constantsOf, yearsElapsed}
+use mathlib.Core.Path.{_≡_}
+use native.Mathlib.Omega.{arith}
+use Rattle.calendar.specs.Systems.{yearsElapsed}
 use Rattle.calendar.specs.LeapMonth.{leapNumber}
-use Rattle.reckoning.proofs.AnswerUnless.{picks-guantian, picks-jiyuan, picked, in-register-here}
+use Rattle.reckoning.proofs.Picking.{picked-years, picked}
 use borrow.Author.Needs.{needs}
 use Rattle.reckoning.proofs.leap_month.Statement.{statement}
 use Rattle.reckoning.proofs.leap_month.Tie as tie
 
--- The constants are those of the system asked for.
-guantian-picked : (c : tie.After-guantian) → constantsOf (c .before .before .args .system) ≡ c .guantian .result
-guantian-picked c = picks-guantian _ (c .before .if1 .taken) ∙ sym (c .guantian .ensures)
+jiyuan-requires : tie.Need-jiyuan-requires
+jiyuan-requires c κs = search needs
 
-jiyuan-picked : (c : tie.After-jiyuan) → constantsOf (c .before .before .args .system) ≡ c .jiyuan .result
-jiyuan-picked c = picks-jiyuan _ (c .before .if1 .left) ∙ sym (c .jiyuan .ensures)
+number-of-common-year-requires : tie.Need-number-of-common-year-requires
+number-of-common-year-requires c κs = picked-years 2 (c .jiyuan .ensures) .in-register _ (c .before .before .pre .year-inside)
+
+jingchu-requires : tie.Need-jingchu-requires
+jingchu-requires c κs = search needs
+
+number-of-common-year-requires-2 : tie.Need-number-of-common-year-requires-2
+number-of-common-year-requires-2 c κs = picked-years 3 (c .jingchu .ensures) .in-register _ (c .before .before .pre .year-inside)
 
 guantian-requires : tie.Need-guantian-requires
 guantian-requires c κs = search needs
 
-number-of-common-year-requires : tie.Need-number-of-common-year-requires
-number-of-common-year-requires c κs =
-    let start = c .before .before in in-register-here _ _ _ (guantian-picked c) (start .pre)
+number-of-common-year-requires-3 : tie.Need-number-of-common-year-requires-3
+number-of-common-year-requires-3 c κs = picked-years 1 (c .guantian .ensures) .in-register _ (c .before .before .pre .year-inside)
 
 returns : tie.Need-returns
 returns c =
     let args = c .before .before .before .args in
-    picked (λ k. leapNumber k (yearsElapsed k (args .year))) (args .system) (guantian-picked (c .before)) (c .number-of-common-year .ensures)
-
-jiyuan-requires : tie.Need-jiyuan-requires
-jiyuan-requires c κs = search needs
-
-number-of-common-year-requires-2 : tie.Need-number-of-common-year-requires-2
-number-of-common-year-requires-2 c κs =
-    let start = c .before .before in in-register-here _ _ _ (jiyuan-picked c) (start .pre)
+    picked 2 (c .before .jiyuan .ensures) (λ k. leapNumber k (yearsElapsed k (args .year))) (args .system) (c .before .before .match .keys1) (c .number-of-common-year .ensures)
 
 returns-2 : tie.Need-returns-2
 returns-2 c =
     let args = c .before .before .before .args in
-    picked (λ k. leapNumber k (yearsElapsed k (args .year))) (args .system) (jiyuan-picked (c .before)) (c .number-of-common-year2 .ensures)
+    picked 3 (c .before .jingchu .ensures) (λ k. leapNumber k (yearsElapsed k (args .year))) (args .system) (c .before .before .match .keys2) (c .number-of-common-year2 .ensures)
+
+returns-3 : tie.Need-returns-3
+returns-3 c =
+    let start = c .before .before .before in
+    let args = start .args in
+    let first : args .system ≡ 1 = omega (arith, start .pre .system-inside, c .before .before .match .rest) in
+    picked 1 (c .before .guantian .ensures) (λ k. leapNumber k (yearsElapsed k (args .year))) (args .system) first (c .number-of-common-year3 .ensures)
 
 pub leap-month-spec : {M : Type 1} → statement M
 leap-month-spec =
     tie.close
     (tie.spec
-    guantian-requires
-    number-of-common-year-requires
-    returns
     jiyuan-requires
+    number-of-common-year-requires
+    jingchu-requires
     number-of-common-year-requires-2
-    returns-2)
+    guantian-requires
+    number-of-common-year-requires-3
+    returns
+    returns-2
+    returns-3)

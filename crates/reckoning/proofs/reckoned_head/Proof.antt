@@ -1,87 +1,73 @@
-use mathlib.Core.Path.{_≡_, sym, ap, _∙_}
-use Rattle.calendar.specs.declared.data.RegisterDay.{RegisterDay}
-use Rattle.calendar.specs.Systems.{constantsOf}
-use Rattle.reckoning.specs.declared.data.YearHead.{YearHead}
-use Rattle.reckoning.specs.ComputedRefusals.{yearRefusal}
-use Rattle.reckoning.specs.Requests.{yearHeadIn, noYearHead, yearHeadOf}
-use Rattle.reckoning.proofs.AnswerUnless.{refused-here, answered-here, picks-guantian, picks-jiyuan, in-register-here}
-use Rattle.reckoning.proofs.HeadLaws.{head-of}
+use mathlib.Core.Path.{refl, _∙_}
+use native.Mathlib.Omega.{arith}
+use Rattle.reckoning.specs.Requests.{answerOfYear, yearHeadIn, noYearHead, yearHeadOf}
+use Rattle.reckoning.proofs.Picking.{picked-years, by-number, by-no-number}
+use Rattle.reckoning.proofs.AnswerUnless.{system-then-year}
 use borrow.Author.Needs.{needs}
 use Rattle.reckoning.proofs.reckoned_head.Statement.{statement}
 use Rattle.reckoning.proofs.reckoned_head.Tie as tie
 
--- The places that the answers go back to, each from the one after it.
-abbrev request : tie.Else1 → tie.Start
-request c = c .before .before
-
-abbrev first : tie.After-guantian → tie.Else1
-first c = c .before .before
-
-abbrev second : tie.After-jiyuan → tie.Else1
-second c = c .before .before
-
--- The answer by a head.
-abbrev answer : RegisterDay → YearHead
-answer day = record { refusal = 0; day = day }
-
--- The request is not refused, and the constants are those of its system.
-accepted : (c : tie.Else1) → yearRefusal (request c .args .system) (request c .args .year) ≡ 0
-accepted c = sym (c .before .of-year .ensures) ∙ c .if1 .left
-
-guantian-picked : (c : tie.After-guantian) → constantsOf (request (first c) .args .system) ≡ c .guantian .result
-guantian-picked c = picks-guantian _ (c .before .if2 .taken) ∙ sym (c .guantian .ensures)
-
-jiyuan-picked : (c : tie.After-jiyuan) → constantsOf (request (second c) .args .system) ≡ c .jiyuan .result
-jiyuan-picked c = picks-jiyuan _ (c .before .if2 .left) ∙ sym (c .jiyuan .ensures)
-
-of-year-requires : tie.Need-of-year-requires
-of-year-requires c κs = search needs
-
-returns : tie.Need-returns
-unfolding yearHeadOf
-returns c = refused-here yearHeadIn noYearHead _ _ _ (c .before .of-year .ensures) (c .if1 .taken)
-
 guantian-requires : tie.Need-guantian-requires
 guantian-requires c κs = search needs
 
-reckoned-requires : tie.Need-reckoned-requires
-reckoned-requires c κs =
-    let args = request (first c) .args in
-    head-of (in-register-here (args .system) (args .year) _ (guantian-picked c) (accepted (first c)))
-
-returns-2 : tie.Need-returns-2
-unfolding yearHeadOf
-returns-2 c =
-    let there = first (c .before) in
-    let args = request there .args in
-    let answered = answered-here yearHeadIn noYearHead (args .system) (args .year) in
-    ap answer (c .reckoned .ensures) ∙ answered _ (guantian-picked (c .before)) (accepted there)
+of-common-year-requires : tie.Need-of-common-year-requires
+of-common-year-requires c κs = picked-years 1 (c .guantian .ensures)
 
 jiyuan-requires : tie.Need-jiyuan-requires
 jiyuan-requires c κs = search needs
 
-reckoned-requires-2 : tie.Need-reckoned-requires-2
-reckoned-requires-2 c κs =
-    let args = request (second c) .args in
-    head-of (in-register-here (args .system) (args .year) _ (jiyuan-picked c) (accepted (second c)))
+of-common-year-requires-2 : tie.Need-of-common-year-requires-2
+of-common-year-requires-2 c κs = picked-years 2 (c .jiyuan .ensures)
+
+jingchu-requires : tie.Need-jingchu-requires
+jingchu-requires c κs = search needs
+
+of-common-year-requires-3 : tie.Need-of-common-year-requires-3
+of-common-year-requires-3 c κs = picked-years 3 (c .jingchu .ensures)
+
+none-requires : tie.Need-none-requires
+none-requires c κs = search needs
+
+returns : tie.Need-returns
+unfolding yearHeadOf
+returns c =
+    let args = c .before .before .before .args in
+    by-number (λ k. answerOfYear k (args .year) yearHeadIn noYearHead) noYearHead (args .system) 1 refl (c .before .before .match .keys1) (c .before .guantian .ensures) (c .of-common-year .ensures)
+    ∙ system-then-year yearHeadIn noYearHead (args .system) (args .year)
+
+returns-2 : tie.Need-returns-2
+unfolding yearHeadOf
+returns-2 c =
+    let args = c .before .before .before .args in
+    by-number (λ k. answerOfYear k (args .year) yearHeadIn noYearHead) noYearHead (args .system) 2 refl (c .before .before .match .keys2) (c .before .jiyuan .ensures) (c .of-common-year2 .ensures)
+    ∙ system-then-year yearHeadIn noYearHead (args .system) (args .year)
 
 returns-3 : tie.Need-returns-3
 unfolding yearHeadOf
 returns-3 c =
-    let there = second (c .before) in
-    let args = request there .args in
-    let answered = answered-here yearHeadIn noYearHead (args .system) (args .year) in
-    ap answer (c .reckoned2 .ensures) ∙ answered _ (jiyuan-picked (c .before)) (accepted there)
+    let args = c .before .before .before .args in
+    by-number (λ k. answerOfYear k (args .year) yearHeadIn noYearHead) noYearHead (args .system) 3 refl (c .before .before .match .keys3) (c .before .jingchu .ensures) (c .of-common-year3 .ensures)
+    ∙ system-then-year yearHeadIn noYearHead (args .system) (args .year)
+
+returns-4 : tie.Need-returns-4
+unfolding yearHeadOf
+returns-4 c =
+    let args = c .before .before .args in
+    by-no-number (λ k. answerOfYear k (args .year) yearHeadIn noYearHead) noYearHead (args .system) (λ i. omega (arith, i, c .before .match .rest)) (c .none .ensures)
+    ∙ system-then-year yearHeadIn noYearHead (args .system) (args .year)
 
 pub reckoned-head-spec : {M : Type 1} → statement M
 reckoned-head-spec =
     tie.close
     (tie.spec
-    of-year-requires
-    returns
     guantian-requires
-    reckoned-requires
-    returns-2
+    of-common-year-requires
     jiyuan-requires
-    reckoned-requires-2
-    returns-3)
+    of-common-year-requires-2
+    jingchu-requires
+    of-common-year-requires-3
+    none-requires
+    returns
+    returns-2
+    returns-3
+    returns-4)

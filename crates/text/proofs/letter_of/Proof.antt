@@ -1,15 +1,30 @@
-use borrow.Author.Tests.{eq-eqb, ne-eqb}
+use Prim.Native.Nat.{ℕ, zero, suc, _≤_}
+use mathlib.Core.Path.{_≡_, refl}
+use native.Mathlib.Omega.{arith}
+use Rattle.text.specs.Piece.{letterOf}
+use borrow.Author.Needs.{needs}
 use Rattle.text.proofs.letter_of.Statement.{statement}
 use Rattle.text.proofs.letter_of.Tie as tie
 
+-- A number that is no system's.
+no-letter : (system : ℕ) → (1 ≤ system → system ≤ 3 → ⊥) → 63 ≡ letterOf system
+no-letter zero none = refl
+no-letter (suc zero) none = absurd (none (omega arith) (omega arith))
+no-letter (suc (suc zero)) none = absurd (none (omega arith) (omega arith))
+no-letter (suc (suc (suc zero))) none = absurd (none (omega arith) (omega arith))
+no-letter (suc (suc (suc (suc n)))) none = refl
+
 returns : tie.Need-returns
-returns c = simp (eq-eqb _ _ (c .if1 .taken))
+returns c = search needs
 
 returns-2 : tie.Need-returns-2
-returns-2 c = simp (ne-eqb _ _ (c .before .if1 .left), eq-eqb _ _ (c .if2 .taken))
+returns-2 c = search needs
 
 returns-3 : tie.Need-returns-3
-returns-3 c = simp (ne-eqb _ _ (c .before .if1 .left), ne-eqb _ _ (c .if2 .left))
+returns-3 c = search needs
+
+returns-4 : tie.Need-returns-4
+returns-4 c = no-letter (c .before .args .system) (λ least most. omega (arith, c .match .rest))
 
 pub letter-of-spec : {M : Type 1} → statement M
-letter-of-spec = tie.close (tie.spec returns returns-2 returns-3)
+letter-of-spec = tie.close (tie.spec returns returns-2 returns-3 returns-4)
