@@ -6,7 +6,7 @@ use crate::heads;
 use crate::lines::lines;
 use crate::pentads::{in_force_line, page, Pentads};
 use crate::reckoning::{
-    name_of, Moment, Month, Tables, System, Table, Year, FIRST_YEAR, LAST_YEAR,
+    name_of, Moment, Month, System, Table, Tables, Year, FIRST_YEAR, LAST_YEAR, SYSTEMS,
 };
 use crate::requests::{Answer, Number};
 use crate::streams::{citation_of, leap_marks};
@@ -38,8 +38,14 @@ pub fn run(tables: &Tables) -> Checks {
     pages_of_pentads(&mut checks);
     pentads_in_force(&mut checks);
     told_heads(tables, &mut checks);
-    for system in 1..=2 {
-        let table = tables.table(system).unwrap();
+    jingchu_years(tables, &mut checks);
+    jingchu_leap_months(tables, &mut checks);
+    jingchu_qi(tables, &mut checks);
+    jingchu_days(tables, &mut checks);
+    nineteen_years(tables, &mut checks);
+    jingchu_remainders(tables, &mut checks);
+    for system in SYSTEMS {
+        let table = tables.table(system.number).unwrap();
         facts(table, &mut checks);
         names(table, &mut checks);
         carried_walk(table, &mut checks);
@@ -95,6 +101,13 @@ fn leap_numbers(year: &Year) -> Vec<u8> {
     year.months.iter().filter(|m| m.leap).map(|m| m.number).collect()
 }
 
+/// The parts from a first month's new moon to the solstice, where the sun and
+/// the moon have the same parts.
+fn parts_to_solstice(system: &System, year: &Year) -> i128 {
+    assert!(system.solar_parts_in_day == system.lunar_parts_in_day);
+    year.solstice.0 - year.months[0].new_moon.0
+}
+
 /// The papers' examples 1 to 10, and the other places where paper 01 gives the
 /// number of a day.
 fn examples(tables: &Tables, checks: &mut Checks) {
@@ -107,11 +120,11 @@ fn examples(tables: &Tables, checks: &mut Checks) {
     checks.same("1, remainder", y.solstice_remainder, 2_320);
 
     let moon = y.months[0].new_moon;
-    checks.same("2, parts before", y.solstice_parts - moon, 28_067);
+    checks.same("2, parts before", parts_to_solstice(guantian.system, y), 28_067);
     checks.same("2, day", y.head, 2119892);
     checks.same("2, first month's head", y.months[0].head, 2119892);
     checks.same("2, name", name_of(y.head), 21);
-    checks.same("2, remainder", guantian.system.remainder_of(moon), 10_343);
+    checks.same("2, remainder", guantian.system.remainder_of_moon(moon), 10_343);
 
     checks.same("3, months", y.months.len(), 12);
     checks.same("3, days", y.length(), 355);
@@ -141,10 +154,10 @@ fn examples(tables: &Tables, checks: &mut Checks) {
     checks.same("7, remainder", y.solstice_remainder, 4_536);
 
     let moon = y.months[0].new_moon;
-    checks.same("8, parts before", y.solstice_parts - moon, 50_806);
+    checks.same("8, parts before", parts_to_solstice(jiyuan.system, y), 50_806);
     checks.same("8, day", y.head, 2125001);
     checks.same("8, name", name_of(y.head), 30);
-    checks.same("8, remainder", jiyuan.system.remainder_of(moon), 4_760);
+    checks.same("8, remainder", jiyuan.system.remainder_of_moon(moon), 4_760);
     checks.same("8, months", y.months.len(), 12);
 
     let first = [0x0A, 0x00, 0x01, 0x00, 0x01, 0x46, 0x04, 0x05, 0x00, 0x01];
@@ -184,14 +197,15 @@ fn days_with_qi_and_moon(tables: &Tables, checks: &mut Checks) {
     let (summer, month) = (&y.qi[12], &y.months[7]);
     checks.same("Q-2, day of the summer solstice", summer.day, 2120808);
     checks.same("Q-2, day of the new moon", month.head, 2120808);
-    let parts_between = guantian.system.remainder_of(month.new_moon) - summer.parts;
+    let parts_between = guantian.system.remainder_of_moon(month.new_moon) - summer.parts;
     checks.same("Q-2, parts between them", (parts_between, summer.units), (76, 0));
 
     checks.same("Q-2, leap months of 1094", leap_numbers(y), vec![4]);
 
     let jiyuan = tables.table(2).unwrap();
-    let (y, last) = (jiyuan.year(1108), &jiyuan.year(1107).months[12]);
-    checks.that(last.new_moon < y.solstice_parts && y.solstice_parts < y.months[0].new_moon, || {
+    let y = jiyuan.year(1108);
+    let before = parts_to_solstice(jiyuan.system, y);
+    checks.that(-jiyuan.system.lunar_parts_in_month < before && before < 0, || {
         "Q-2: the first new moon of Jiyuan 1108 is not the next after its solstice".to_string()
     });
     checks.same("Q-2, day of that new moon", y.months[0].head, y.solstice_day);
@@ -248,8 +262,10 @@ fn told_with_ten(tables: &Tables, checks: &mut Checks, by: By) {
         checks.same("Q-3, leap 5 of 1092", by(tables, 1, 1092, 5, 1, byte), (10, 0));
         checks.same("Q-3, leap 11 of 1107", by(tables, 2, 1107, 11, 1, byte), (10, 10));
         checks.same("Q-3, leap 11 of 1108", by(tables, 2, 1108, 11, 1, byte), (10, 0));
+        checks.same("Q-3, leap 11 of 238", by(tables, 3, 238, 11, 1, byte), (10, 10));
+        checks.same("Q-3, leap 10 of 237", by(tables, 3, 237, 10, 1, byte), (10, 0));
     }
-    for (system, year, leap, place) in [(1, 1094, 4, 6), (2, 1107, 10, 12)] {
+    for (system, year, leap, place) in [(1, 1094, 4, 6), (2, 1107, 10, 12), (3, 238, 10, 12)] {
         let month = &tables.table(system).unwrap().year(year).months[place];
         let answers: Vec<(u8, u8)> =
             (0..=255).map(|byte| by(tables, system, year as u16, leap, 1, byte)).collect();
@@ -275,7 +291,7 @@ fn before_ten(tables: &Tables, checks: &mut Checks, by: By) {
     for year in [0, 3001, 65_535] {
         checks.same("Q-3, no such year", by(tables, 1, year, 5, 1, 1), (5, 0));
     }
-    for system in [0, 3, 255] {
+    for system in [0, 4, 255] {
         checks.same("Q-3, no such system", by(tables, system, 1094, 5, 1, 1), (4, 0));
         checks.same("Q-3, no such system", by(tables, system, 0, 13, 1, 1), (4, 0));
     }
@@ -305,6 +321,10 @@ fn around_ten(tables: &Tables, checks: &mut Checks) {
     }
 }
 
+/// Systems that there are not. Some would be if they were cut to 8, 32 or 64
+/// bits.
+const NO_SYSTEMS: [&str; 5] = ["0", "4", "259", "4294967297", "18446744073709551618"];
+
 /// The lines of one year's pentads, or the refusal.
 fn page_of(system: &str, year: &str) -> Answer {
     page(&Number::read(system).unwrap(), &Number::read(year).unwrap())
@@ -320,9 +340,10 @@ fn one_line(line: &str) -> Answer {
     Ok(vec![line.to_string()])
 }
 
-/// Pentads of Q-4 by hand. The solstices are those of cases 1 and 7, and one
-/// step is added to them; a third pentad is a qi; the last is a step before the
-/// next solstice, which for Guantian 1093 is 365 days and 2,930 parts on.
+/// Pentads of Q-4 by hand. The solstices are those of cases 1 and 7 and of
+/// Q-6, and one step is added to them; a third pentad is a qi; the last is a
+/// step before the next solstice, which for Guantian 1093 is 365 days and 2,930
+/// parts on, and for Jingchu 238 is 365 days and 455 parts on.
 fn pages_of_pentads(checks: &mut Checks) {
     let guantian = page_of("1", "1092").unwrap();
     checks.same("Q-4, lines", guantian.len(), 73);
@@ -341,18 +362,29 @@ fn pages_of_pentads(checks: &mut Checks) {
     checks.same("Q-4, a step on", jiyuan[2].as_str(), "pentad 1 2125013 42 5066 55");
     checks.same("Q-4, a qi on", jiyuan[4].as_str(), "pentad 3 2125023 52 6128 45");
 
-    for system in ["0", "3", "4294967297", "18446744073709551618"] {
+    let jingchu = page_of("3", "237").unwrap();
+    checks.same("Q-6, lines", jingchu.len(), 73);
+    checks.same("Q-6, first line", jingchu[0].as_str(), "pentads W 237");
+    checks.same("Q-6, solstice", jingchu[1].as_str(), "pentad 0 1807614 43 1161 0");
+    checks.same("Q-6, a step on", jingchu[2].as_str(), "pentad 1 1807619 48 1295 11");
+    checks.same("Q-6, two steps on", jingchu[3].as_str(), "pentad 2 1807624 53 1429 22");
+    checks.same("Q-6, a qi on", jingchu[4].as_str(), "pentad 3 1807629 58 1563 33");
+    checks.same("Q-6, a step back", jingchu[72].as_str(), "pentad 71 1807974 43 1481 25");
+
+    for system in NO_SYSTEMS {
         checks.same("Q-4, no such system", page_of(system, "1092"), Err(4));
         checks.same("Q-4, no such system", page_of(system, "0"), Err(4));
     }
     for year in ["0", "3001", "66628", "4294968388", "18446744073709552708"] {
-        checks.same("Q-4, no such year", page_of("1", year), Err(5));
-        checks.same("Q-4, no such year", page_of("2", year), Err(5));
+        for system in ["1", "2", "3"] {
+            checks.same("Q-4, no such year", page_of(system, year), Err(5));
+        }
     }
 }
 
 /// The pentad in force around those days, by hand, and around the first and the
-/// last day that may be asked for, which are the same in both systems.
+/// last day that may be asked for, which in Jingchu are later than in the other
+/// two.
 fn pentads_in_force(checks: &mut Checks) {
     for (system, day, line) in [
         ("1", "2119894", "2119894 G 1091 71"),
@@ -367,20 +399,33 @@ fn pentads_in_force(checks: &mut Checks) {
         ("2", "2125008", "2125008 J 1106 0"),
         ("2", "2125012", "2125012 J 1106 0"),
         ("2", "2125013", "2125013 J 1106 1"),
+        ("3", "1807613", "1807613 W 236 71"),
+        ("3", "1807614", "1807614 W 237 0"),
+        ("3", "1807618", "1807618 W 237 0"),
+        ("3", "1807619", "1807619 W 237 1"),
         ("1", "1721414", "1721414 G 1 0"),
         ("2", "1721414", "1721414 J 1 0"),
+        ("3", "1721416", "1721416 W 1 0"),
         ("1", "2817144", "2817144 G 3000 71"),
         ("2", "2817144", "2817144 J 3000 71"),
+        ("3", "2817156", "2817156 W 3000 71"),
     ] {
         checks.same("Q-4, in force", in_force_on(system, day), one_line(line));
     }
-    for system in ["0", "3", "4294967297", "18446744073709551618"] {
+    for system in NO_SYSTEMS {
         checks.same("Q-4, no such system", in_force_on(system, "2120808"), Err(4));
         checks.same("Q-4, no such system", in_force_on(system, "0"), Err(4));
     }
-    for day in ["0", "1721413", "2817145", "4294967295", "4297088104", "18446744073711672424"] {
-        checks.same("Q-4, no such day", in_force_on("1", day), Err(7));
-        checks.same("Q-4, no such day", in_force_on("2", day), Err(7));
+    for day in ["0", "1721413", "4294967295", "4297088104", "18446744073711672424"] {
+        for system in ["1", "2", "3"] {
+            checks.same("Q-4, no such day", in_force_on(system, day), Err(7));
+        }
+    }
+    for (system, day) in [("1", "2817145"), ("2", "2817145"), ("3", "1721415"), ("3", "2817157")] {
+        checks.same("Q-4, no such day", in_force_on(system, day), Err(7));
+    }
+    for day in ["1", "330190", "330191", "330192", "1721406", "1721407"] {
+        checks.same("Q-6, no such day", in_force_on("3", day), Err(7));
     }
 }
 
@@ -389,8 +434,8 @@ fn head_of(tables: &Tables, system: &str, year: &str) -> Answer {
     heads::line(tables, &Number::read(system).unwrap(), &Number::read(year).unwrap())
 }
 
-/// The heads of cases 2, 5 and 8, and those which follow on the years whose
-/// lengths cases 3 and 5 tell, as Q-5 wants them compared.
+/// The heads of cases 2, 5 and 8, those which follow on the years whose lengths
+/// cases 3 and 5 tell, as Q-5 wants them compared, and that of Q-6's year.
 fn told_heads(tables: &Tables, checks: &mut Checks) {
     for (system, year, line) in [
         ("1", "1092", "1092 2119892"),
@@ -398,16 +443,202 @@ fn told_heads(tables: &Tables, checks: &mut Checks) {
         ("1", "1094", "1094 2120601"),
         ("1", "1095", "1095 2120985"),
         ("2", "1106", "1106 2125001"),
+        ("3", "237", "237 1807606"),
     ] {
         checks.same("Q-5, head", head_of(tables, system, year), one_line(line));
     }
-    for system in ["0", "3", "4294967297", "18446744073709551618"] {
+    for system in NO_SYSTEMS {
         checks.same("Q-5, no such system", head_of(tables, system, "1092"), Err(4));
         checks.same("Q-5, no such system", head_of(tables, system, "0"), Err(4));
     }
     for year in ["0", "3001", "66628", "4294968388", "18446744073709552708"] {
-        checks.same("Q-5, no such year", head_of(tables, "1", year), Err(5));
-        checks.same("Q-5, no such year", head_of(tables, "2", year), Err(5));
+        for system in ["1", "2", "3"] {
+            checks.same("Q-5, no such year", head_of(tables, system, year), Err(5));
+        }
+    }
+}
+
+/// Years of Q-6 by hand: the solstice, N times 673,150 by 1,843; the new moon
+/// that opens the year, whose number is N times 235 by 19, cut down, and whose
+/// day is that number times 134,630 by 4,559; 330,191 added to either day. Each
+/// has its name and its remainder. The days are those to the next head.
+fn jingchu_years(tables: &Tables, checks: &mut Checks) {
+    let jingchu = tables.table(3).unwrap();
+    for (year, solstice, head, months, days) in [
+        (1, (1721416, 5, 675), (1721407, 56, 186), 12, 354),
+        (2, (1721781, 10, 1_130), (1721761, 50, 1_860), 13, 384),
+        (8, (1723973, 42, 174), (1723946, 15, 3_065), 13, 384),
+        (236, (1807249, 38, 706), (1807222, 11, 4_381), 13, 384),
+        // The paper's own solstice.
+        (237, (1807614, 43, 1_161), (1807606, 35, 3_915), 12, 355),
+        (238, (1807979, 48, 1_616), (1807961, 30, 1_030), 13, 384),
+        (239, (1808345, 54, 228), (1808345, 54, 564), 12, 354),
+        (1094, (2120631, 40, 380), (2120631, 40, 940), 12, 354),
+        (3000, (2816791, 20, 1_400), (2816785, 14, 2_474), 12, 354),
+        // No request may name it, but it ends the year before.
+        (3001, (2817157, 26, 12), (2817139, 8, 4_148), 12, 355),
+    ] {
+        let y = jingchu.year(year);
+        let what = format!("Q-6, {}", year);
+        let of_solstice = (y.solstice_day, name_of(y.solstice_day), y.solstice_remainder);
+        let moon = y.months[0].new_moon;
+        let of_head = (y.head, name_of(y.head), jingchu.system.remainder_of_moon(moon));
+        checks.same(&what, (of_solstice, of_head), (solstice, head));
+        checks.same(&what, (y.months.len(), y.length()), (months, days));
+    }
+}
+
+/// The leap months of those years, by hand: the place, the number, the head and
+/// the length.
+///
+/// In 8 qi 6 falls at 748 of 1,843 parts on the day of the fifth new moon,
+/// which comes at 3,623 of 4,559: it is held by that month, and the fourth is
+/// leap. In 236 the treatise's shortcut makes the fourth leap: 19 less 17,
+/// times 12 and by 7, is 3 and three sevenths, which it rounds to 3 months
+/// before it. But qi 6 falls on the last day of the fourth, and the fifth holds
+/// none.
+fn jingchu_leap_months(tables: &Tables, checks: &mut Checks) {
+    let jingchu = tables.table(3).unwrap();
+    for (year, leap) in [
+        (1, vec![]),
+        (2, vec![(12, 9, 1722086, 29)]),
+        (8, vec![(4, 1, 1724035, 29)]),
+        (236, vec![(5, 2, 1807341, 29)]),
+        (237, vec![]),
+        (238, vec![(13, 10, 1808315, 30)]),
+        (239, vec![]),
+        (1094, vec![]),
+        (3000, vec![]),
+    ] {
+        let months = jingchu.year(year).months.iter().enumerate();
+        let came: Vec<(usize, u8, i128, i128)> = months
+            .filter(|(_, m)| m.leap)
+            .map(|(i, m)| (i + 1, m.number, m.head, m.length))
+            .collect();
+        checks.same(&format!("Q-6, leap months of {}", year), came, leap);
+    }
+}
+
+/// Qi of Q-6 by hand: so many steps of 15 days, 402 parts and 11 small units
+/// after the solstice.
+fn jingchu_qi(tables: &Tables, checks: &mut Checks) {
+    let jingchu = tables.table(3).unwrap();
+    for (year, i, day, parts, units) in [
+        (8, 6, 1724064, 748, 6),
+        (236, 6, 1807340, 1_280, 6),
+        (236, 8, 1807371, 243, 4),
+        (237, 1, 1807629, 1_563, 11),
+        (237, 2, 1807645, 123, 10),
+        (237, 12, 1807797, 467, 0),
+        (237, 23, 1807964, 1_213, 1),
+        (238, 22, 1808314, 1_265, 2),
+    ] {
+        let qi = &jingchu.year(year).qi[i];
+        let what = format!("Q-6, qi {} of {}", i, year);
+        checks.same(&what, (qi.day, qi.parts, qi.units), (day, parts, units));
+    }
+}
+
+/// Days of Q-6 by hand: one in all four kinds, which is the first of a leap
+/// month; the first and the last of the years 1 and 3000; and days outside,
+/// among them those around count day 0.
+fn jingchu_days(tables: &Tables, checks: &mut Checks) {
+    let first = [0x0A, 0x00, 0x01, 0x00, 0x03, 0xEE, 0x00, 0x0A, 0x01, 0x01];
+    let second = [0x0A, 0x00, 0x02, 0x00, 0x03, 0xEE, 0x00, 0x0A, 0x01, 0x18];
+    let third = [0x09, 0x00, 0x03, 0x00, 0x03, 0xEE, 0x00, 0x63, 0x01];
+    let fourth = [0x09, 0x00, 0x04, 0x00, 0x03, 0xBB, 0x97, 0x1B, 0x00];
+    let four: [&[u8]; 4] = [&first, &second, &third, &fourth];
+    for record in four {
+        checks.same("Q-6, stored", store(tables, record, 10), Ok((1808315, first)));
+        checks.same("Q-6, no room", store(tables, record, 9), Err(Refusal::plain(8)));
+    }
+    let expected = "W 238 10* 1 1808315 24\n".repeat(4);
+    checks.same("Q-6, the program", lines_of(tables, &four.concat()), expected);
+
+    for (year, ordinal, line) in [
+        (1, 1, "W 1 11 1 1721407 56\n"),
+        (1, 354, "W 1 10 30 1721760 49\n"),
+        (1, 355, "refused 7\n"),
+        (237, 9, "W 237 11 9 1807614 43\n"),
+        (237, 355, "W 237 10 30 1807960 29\n"),
+        (237, 356, "refused 7\n"),
+        (3000, 1, "W 3000 11 1 2816785 14\n"),
+        (3000, 354, "W 3000 10 29 2817138 7\n"),
+        (3000, 355, "refused 7\n"),
+    ] {
+        let ([y, z], [o, p]) = (u16::to_le_bytes(year), u16::to_le_bytes(ordinal));
+        let came = lines_of(tables, &[9, 0, 3, 0, 3, y, z, o, p]);
+        checks.same("Q-6, by ordinal", came, line.to_string());
+    }
+    for (day, line) in [
+        (0, "refused 7\n"),
+        (1, "refused 7\n"),
+        (330_190, "refused 7\n"),
+        (330_191, "refused 7\n"),
+        (330_192, "refused 7\n"),
+        (1721406, "refused 7\n"),
+        (1721407, "W 1 11 1 1721407 56\n"),
+        (2817138, "W 3000 10 29 2817138 7\n"),
+        (2817139, "refused 7\n"),
+        (4_294_967_295, "refused 7\n"),
+    ] {
+        let [a, b, c, d] = u32::to_le_bytes(day);
+        let came = lines_of(tables, &[9, 0, 4, 0, 3, a, b, c, d]);
+        checks.same("Q-6, by day", came, line.to_string());
+    }
+    // Refused before anything else of the record is looked at.
+    let no_system = [9, 0, 4, 0, 4, 0, 0, 0, 0];
+    checks.same("Q-6, no such system", lines_of(tables, &no_system), "refused 4\n".to_string());
+}
+
+/// Of Q-6: 19 years are as long as 235 months, so that in every nineteenth
+/// year, such as 239, the solstice is at a new moon. Solar and lunar parts are
+/// two kinds, so that shares of a day are compared, by their cross products.
+/// And three pentads are a qi, and 72 a year.
+fn nineteen_years(tables: &Tables, checks: &mut Checks) {
+    let jingchu = tables.table(3).unwrap();
+    let walk = |parts_in_day, units_in_part, step: Clock, times| {
+        let mut clock = Clock { day: 0, parts: 0, units: 0 };
+        for _ in 0..times {
+            clock.add(Scale { parts_in_day, units_in_part }, step);
+        }
+        (clock.day, clock.parts, clock.units)
+    };
+    let year = Clock { day: 365, parts: 455, units: 0 };
+    let month = Clock { day: 29, parts: 2_419, units: 0 };
+    checks.same("Q-6, 19 years", walk(1_843, 12, year, 19), (6_939, 1_273, 0));
+    checks.same("Q-6, 235 months", walk(4_559, 1, month, 235), (6_939, 3_149, 0));
+    checks.same("Q-6, the two shares of a day", 1_273 * 4_559, 3_149 * 1_843);
+
+    let pentad = Clock { day: 5, parts: 134, units: 11 };
+    checks.same("Q-6, three pentads", walk(1_843, 36, pentad, 3), (15, 402, 33));
+    checks.same("Q-6, 72 pentads", walk(1_843, 36, pentad, 72), (365, 455, 0));
+
+    for number in FIRST_YEAR..=LAST_YEAR {
+        let y = jingchu.year(number);
+        let of_moon = jingchu.system.remainder_of_moon(y.months[0].new_moon);
+        let at_new_moon = y.head == y.solstice_day && y.solstice_remainder * 4_559 == of_moon * 1_843;
+        checks.that(at_new_moon == ((number - 239) % 19 == 0), || {
+            format!("Q-6: the solstice of {} and the new moon", number)
+        });
+    }
+}
+
+/// What source document 001 tells of Jingchu's long months and leap years by
+/// remainders, which nothing else here looks at: a month has 30 days when its
+/// new moon's is 2,140 or more, and a year has 13 months when N times 235 by 19
+/// leaves 12 or more.
+fn jingchu_remainders(tables: &Tables, checks: &mut Checks) {
+    let jingchu = tables.table(3).unwrap();
+    for number in FIRST_YEAR..=LAST_YEAR {
+        let y = jingchu.year(number);
+        let say = |what: &str| format!("001, W {}: {}", number, what);
+        for month in &y.months {
+            let long = jingchu.system.remainder_of_moon(month.new_moon) >= 2_140;
+            checks.that((month.length == 30) == long, || say("a long month"));
+        }
+        let left = (4_045 + (number - 237)) * 235 % 19;
+        checks.that((y.months.len() == 13) == (left >= 12), || say("a leap month"));
     }
 }
 
@@ -426,7 +657,7 @@ fn every_pentad(table: &Table, checks: &mut Checks) {
             || say("pentad 0 is not the solstice"),
         );
         for (third, qi) in pentads.iter().step_by(3).zip(&y.qi) {
-            // The two fractions of a part, of 36 or 60 units and of 36 or 4.
+            // The two fractions of a part, in pentad units and in small units.
             let pentad_over_both = third.units * system.small_units_in_part;
             let qi_over_both = qi.units * system.pentad_units_in_part;
             checks.that(
@@ -435,7 +666,7 @@ fn every_pentad(table: &Table, checks: &mut Checks) {
             );
         }
         for pentad in &pentads {
-            let in_day = (0..system.parts_in_day).contains(&pentad.parts);
+            let in_day = (0..system.solar_parts_in_day).contains(&pentad.parts);
             let in_part = (0..system.pentad_units_in_part).contains(&pentad.units);
             checks.that(in_day && in_part, || say("parts or units too many"));
         }
@@ -544,7 +775,7 @@ fn facts(table: &Table, checks: &mut Checks) {
 /// 0, day by day, is the name of the register day.
 fn names(table: &Table, checks: &mut Checks) {
     let system = table.system;
-    let count_day_0 = -system.count_day_minus;
+    let count_day_0 = system.register_day(0);
     checks.that(name_of(count_day_0) as i128 == system.name_of_count_day_0, || {
         format!("{}: the name of count day 0", system.letter)
     });
@@ -571,63 +802,76 @@ struct Clock {
     units: i64,
 }
 
-impl Clock {
-    /// Adds a step in small units.
-    fn add(&mut self, system: &System, step: Clock) {
-        self.add_in(system, system.small_units_in_part as i64, step);
-    }
+/// How many parts the days of a clock have, and how many units its parts.
+#[derive(Clone, Copy)]
+struct Scale {
+    parts_in_day: i64,
+    units_in_part: i64,
+}
 
-    /// Adds a step in units of which a part has so many.
-    fn add_in(&mut self, system: &System, units_in_part: i64, step: Clock) {
+impl Clock {
+    fn add(&mut self, scale: Scale, step: Clock) {
         self.day += step.day;
         self.parts += step.parts;
         self.units += step.units;
-        if self.units >= units_in_part {
-            self.units -= units_in_part;
+        if self.units >= scale.units_in_part {
+            self.units -= scale.units_in_part;
             self.parts += 1;
         }
-        if self.parts >= system.parts_in_day as i64 {
-            self.parts -= system.parts_in_day as i64;
+        if self.parts >= scale.parts_in_day {
+            self.parts -= scale.parts_in_day;
             self.day += 1;
         }
     }
 
+    /// The register day of a clock that was started at the epoch.
+    fn register_day(&self, system: &System) -> i128 {
+        system.register_day(self.day as i128)
+    }
+
     fn is_at(&self, system: &System, moment: &Moment) -> bool {
-        self.day as i128 - system.count_day_minus == moment.day
+        self.register_day(system) == moment.day
             && self.parts as i128 == moment.parts
             && self.units as i128 == moment.units
     }
 }
 
-/// Solstices, qi, pentads and months once more, from the epoch by carried steps.
-/// The steps are written out; Guantian's qi step has the 12 small units that the
-/// paper puts in place of the printed 11.
+/// Solstices, qi, pentads and months once more, from the epoch by carried
+/// steps, the sun's in solar and the moon's in lunar parts. The steps are
+/// written out; Guantian's qi step has the 12 small units that the paper puts
+/// in place of the printed 11.
 fn carried_walk(table: &Table, checks: &mut Checks) {
     let system = table.system;
     let clock = |day, parts, units| Clock { day, parts, units };
     let (year_step, month_step, qi_step) = match system.number {
         1 => (clock(365, 2_930, 0), clock(29, 6_383, 0), clock(15, 2_628, 12)),
-        _ => (clock(365, 1_776, 0), clock(29, 3_868, 0), clock(15, 1_592, 3)),
+        2 => (clock(365, 1_776, 0), clock(29, 3_868, 0), clock(15, 1_592, 3)),
+        _ => (clock(365, 455, 0), clock(29, 2_419, 0), clock(15, 402, 11)),
     };
-    let register = |c: Clock| c.day as i128 - system.count_day_minus;
+    let solar = Scale {
+        parts_in_day: system.solar_parts_in_day as i64,
+        units_in_part: system.small_units_in_part as i64,
+    };
+    // A new moon is told in whole parts.
+    let lunar = Scale { parts_in_day: system.lunar_parts_in_day as i64, units_in_part: 1 };
 
     // Solstices: one year's step for every year elapsed.
     let mut solstice = clock(0, 0, 0);
     let before_year_1 = system.elapsed_at_known_year - (system.known_year - 1);
     for _ in 0..before_year_1 {
-        solstice.add(system, year_step);
+        solstice.add(solar, year_step);
     }
     let mut moon = clock(0, 0, 0);
     let end_of_moon = |moon: Clock| {
         let mut next = moon;
-        next.add(system, month_step);
+        next.add(lunar, month_step);
         next
     };
     for number in FIRST_YEAR..=LAST_YEAR + 1 {
         let y = table.year(number);
         let say = |what: &str| format!("{} {}: {} by carried steps", system.letter, number, what);
         checks.that(
-            register(solstice) == y.solstice_day
+            solstice.register_day(system) == y.solstice_day
                 && solstice.parts as i128 == y.solstice_remainder
                 && solstice.units == 0,
             || say("solstice"),
@@ -640,24 +884,24 @@ fn carried_walk(table: &Table, checks: &mut Checks) {
             if i % 2 == 0 {
                 middle.push(qi.day);
             }
-            qi.add(system, qi_step);
+            qi.add(solar, qi_step);
         }
         let mut next_solstice = solstice;
-        next_solstice.add(system, year_step);
+        next_solstice.add(solar, year_step);
         checks.that(qi == next_solstice, || say("24 qi steps do not close on the year"));
         carried_pentads(system, number, solstice, next_solstice, checks);
 
         // New moons: the last on the solstice's day or an earlier one.
         while end_of_moon(moon).day <= solstice.day {
-            moon.add(system, month_step);
+            moon = end_of_moon(moon);
         }
-        checks.that(register(moon) == y.head, || say("head"));
-        carried_months(system, y, moon, month_step, middle, checks);
+        checks.that(moon.register_day(system) == y.head, || say("head"));
+        carried_months(system, y, moon, end_of_moon, middle, checks);
         solstice = next_solstice;
     }
 }
 
-/// A year's pentads from its solstice on, by the steps that the sources print.
+/// A year's pentads from its solstice on, by the steps that paper 02 tells.
 fn carried_pentads(
     system: &System,
     year: i128,
@@ -667,14 +911,16 @@ fn carried_pentads(
 ) {
     let (units_in_part, step) = match system.number {
         1 => (36, Clock { day: 5, parts: 876, units: 4 }),
-        _ => (60, Clock { day: 5, parts: 530, units: 55 }),
+        2 => (60, Clock { day: 5, parts: 530, units: 55 }),
+        _ => (36, Clock { day: 5, parts: 134, units: 11 }),
     };
+    let scale = Scale { parts_in_day: system.solar_parts_in_day as i64, units_in_part };
     let say = |what: &str| format!("{} {}: {} by carried steps", system.letter, year, what);
     let pentads = system.pentads(year);
     let mut clock = solstice;
     for p in 0..72 {
         checks.that(clock.is_at(system, &pentads[p]), || say(&format!("pentad {}", p)));
-        clock.add_in(system, units_in_part, step);
+        clock.add(scale, step);
     }
     checks.that(clock == next_solstice, || say("72 pentad steps do not close on the year"));
 }
@@ -686,20 +932,20 @@ fn carried_months(
     system: &System,
     y: &Year,
     mut moon: Clock,
-    month_step: Clock,
+    end_of_moon: impl Fn(Clock) -> Clock,
     middle: Vec<i64>,
     checks: &mut Checks,
 ) {
-    let register = |c: Clock| c.day as i128 - system.count_day_minus;
     let say = |what: &str| format!("{} {}: {} by carried steps", system.letter, y.number, what);
     let mut waiting = middle.into_iter().peekable();
     let mut number = 10;
     for month in &y.months {
         checks.that(
-            register(moon) == month.head && moon.parts as i128 == system.remainder_of(month.new_moon),
+            moon.register_day(system) == month.head
+                && moon.parts as i128 == system.remainder_of_moon(month.new_moon),
             || say("a month's head"),
         );
-        moon.add(system, month_step);
+        moon = end_of_moon(moon);
         let leap = waiting.next_if(|day| *day < moon.day).is_none();
         if !leap {
             number = if number == 12 { 1 } else { number + 1 };
@@ -707,7 +953,7 @@ fn carried_months(
         checks.that(month.leap == leap && month.number == number, || say("a month's number"));
     }
     checks.that(waiting.next().is_none(), || say("a middle qi is left over"));
-    checks.that(register(moon) == y.next_head, || say("next head"));
+    checks.that(moon.register_day(system) == y.next_head, || say("next head"));
 }
 
 /// Every day in all four kinds: the citation names the day that was walked

@@ -13,7 +13,7 @@ mod reckoning;
 mod requests;
 mod streams;
 
-use reckoning::{Tables, Table, GUANTIAN, JIYUAN};
+use reckoning::{System, Table, Tables};
 use requests::{answers, Number};
 use std::io::{self, BufWriter, Read, Write};
 use std::process::exit;
@@ -29,6 +29,7 @@ const USAGE: &str = "usage:
   independent cuts LONGEST < records
   independent days SYSTEM
   independent marks SYSTEM
+  independent outside SYSTEM
   independent random SEED COUNT
   independent stream SEED COUNT
   independent cases";
@@ -50,10 +51,9 @@ fn main() {
         ["pentad", system, day, last] => pentad_lines(system, day, last, &mut out),
         ["lines"] => lines::lines(&Tables::new(), &records(), &mut out),
         ["cuts", longest] => lines::cuts(&Tables::new(), &records(), word(longest), &mut out),
-        ["days", "1"] => streams::days(&Table::new(&GUANTIAN), &mut out),
-        ["days", "2"] => streams::days(&Table::new(&JIYUAN), &mut out),
-        ["marks", "1"] => streams::marks(&Table::new(&GUANTIAN), &mut out),
-        ["marks", "2"] => streams::marks(&Table::new(&JIYUAN), &mut out),
+        ["days", system] => streams::days(&table(system), &mut out),
+        ["marks", system] => streams::marks(&table(system), &mut out),
+        ["outside", system] => streams::outside(&table(system), &mut out),
         ["random", seed, count] => random(word(seed), word(count), &mut out),
         ["stream", seed, count] => stream(word(seed), word(count), &mut out),
         ["cases"] => cases(&mut out),
@@ -76,6 +76,12 @@ fn number(text: &str) -> Number {
 
 fn word(text: &str) -> u64 {
     text.parse().unwrap_or_else(|_| usage())
+}
+
+/// The table of a system that there is.
+fn table(system: &str) -> Table {
+    let number = system.parse().unwrap_or_else(|_| usage());
+    Table::new(System::numbered(number).unwrap_or_else(|| usage()))
 }
 
 fn year_pages(system: &str, year: &str, last: &str, out: &mut impl Write) -> io::Result<()> {

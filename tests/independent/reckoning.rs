@@ -1,4 +1,4 @@
-//! The reckoning of both systems, in whole numbers only, found by walking and
+//! The reckoning of every system, in whole numbers only, found by walking and
 //! searching. Nothing here turns a rule round: a year's first month is found
 //! by stepping from month to month, a month's number by trying every middle
 //! qi against its days, a day's place by walking through the days.
@@ -8,48 +8,78 @@ use std::ops::Range;
 
 /// Paper 01, constants: one column of the table; and the units in which paper
 /// 02, Q-4 tells a pentad's fraction of a part, which need not be the small
-/// units of a qi.
+/// units of a qi. A year is told in solar parts and a month in lunar parts, of
+/// which a day may have another number.
 pub struct System {
     pub number: u8,
     pub letter: char,
-    pub parts_in_day: i128,
-    pub parts_in_year: i128,
-    pub parts_in_month: i128,
+    pub solar_parts_in_day: i128,
+    pub lunar_parts_in_day: i128,
+    pub solar_parts_in_year: i128,
+    pub lunar_parts_in_month: i128,
     pub small_units_in_part: i128,
     pub pentad_units_in_part: i128,
     pub known_year: i128,
     pub elapsed_at_known_year: i128,
     pub name_of_count_day_0: i128,
-    pub count_day_minus: i128,
+    /// What is added to a count day; below 0 where the paper subtracts.
+    pub register_day_of_count_day_0: i128,
 }
 
-pub const GUANTIAN: System = System {
+const GUANTIAN: System = System {
     number: 1,
     letter: 'G',
-    parts_in_day: 12_030,
-    parts_in_year: 4_393_880,
-    parts_in_month: 355_253,
+    solar_parts_in_day: 12_030,
+    lunar_parts_in_day: 12_030,
+    solar_parts_in_year: 4_393_880,
+    lunar_parts_in_month: 355_253,
     small_units_in_part: 36,
     pentad_units_in_part: 36,
     known_year: 1092,
     elapsed_at_known_year: 5_944_808,
     name_of_count_day_0: 0,
-    count_day_minus: 2_169_182_929,
+    register_day_of_count_day_0: -2_169_182_929,
 };
 
-pub const JIYUAN: System = System {
+const JIYUAN: System = System {
     number: 2,
     letter: 'J',
-    parts_in_day: 7_290,
-    parts_in_year: 2_662_626,
-    parts_in_month: 215_278,
+    solar_parts_in_day: 7_290,
+    lunar_parts_in_day: 7_290,
+    solar_parts_in_year: 2_662_626,
+    lunar_parts_in_month: 215_278,
     small_units_in_part: 4,
     pentad_units_in_part: 60,
     known_year: 1100,
     elapsed_at_known_year: 28_613_460,
     name_of_count_day_0: 15,
-    count_day_minus: 10_448_760_934,
+    register_day_of_count_day_0: -10_448_760_934,
 };
+
+/// Paper 02, Q-6.
+const JINGCHU: System = System {
+    number: 3,
+    letter: 'W',
+    solar_parts_in_day: 1_843,
+    lunar_parts_in_day: 4_559,
+    solar_parts_in_year: 673_150,
+    lunar_parts_in_month: 134_630,
+    small_units_in_part: 12,
+    pentad_units_in_part: 36,
+    known_year: 237,
+    elapsed_at_known_year: 4_045,
+    name_of_count_day_0: 0,
+    register_day_of_count_day_0: 330_191,
+};
+
+pub const SYSTEMS: [&System; 3] = [&GUANTIAN, &JIYUAN, &JINGCHU];
+
+/// A moment in solar parts from the epoch, and one in lunar parts. They are two
+/// kinds of number: only the days that such moments fall on can be compared.
+#[derive(Clone, Copy, PartialEq, Eq, PartialOrd, Ord)]
+pub struct Solar(pub i128);
+#[derive(Clone, Copy, PartialEq, Eq, PartialOrd, Ord)]
+pub struct Lunar(pub i128);
 
 /// The years a request may name; the tables go one year further on each side.
 pub const FIRST_YEAR: i128 = 1;
@@ -63,28 +93,44 @@ const PENTADS: i128 = 72;
 impl System {
     /// The system of that number, if there is one.
     pub fn numbered(number: u8) -> Option<&'static System> {
-        [&GUANTIAN, &JIYUAN].into_iter().find(|system| system.number == number)
+        SYSTEMS.into_iter().find(|system| system.number == number)
     }
 
     /// The winter solstice: a whole number of years after the epoch.
-    pub fn solstice_parts(&self, year: i128) -> i128 {
+    pub fn solstice(&self, year: i128) -> Solar {
         let elapsed = self.elapsed_at_known_year + (year - self.known_year);
-        elapsed * self.parts_in_year
+        Solar(elapsed * self.solar_parts_in_year)
     }
 
     pub fn solstice_day(&self, year: i128) -> i128 {
-        self.register_day_of(self.solstice_parts(year))
+        let Solar(parts) = self.solstice(year);
+        self.register_day(parts / self.solar_parts_in_day)
     }
 
-    /// The register day that a moment falls on: whole days since the epoch,
-    /// moved by the table's last row.
-    pub fn register_day_of(&self, parts: i128) -> i128 {
-        parts / self.parts_in_day - self.count_day_minus
+    /// The solar parts of its day that have passed at the solstice.
+    pub fn solstice_remainder(&self, year: i128) -> i128 {
+        let Solar(parts) = self.solstice(year);
+        parts % self.solar_parts_in_day
     }
 
-    /// The parts of that day that have passed at the moment.
-    pub fn remainder_of(&self, parts: i128) -> i128 {
-        parts % self.parts_in_day
+    /// The register day that a new moon falls on.
+    pub fn day_of_moon(&self, moon: Lunar) -> i128 {
+        self.register_day(moon.0 / self.lunar_parts_in_day)
+    }
+
+    /// The lunar parts of that day that have passed at the new moon.
+    pub fn remainder_of_moon(&self, moon: Lunar) -> i128 {
+        moon.0 % self.lunar_parts_in_day
+    }
+
+    /// The new moon after this one.
+    pub fn next_moon(&self, moon: Lunar) -> Lunar {
+        Lunar(moon.0 + self.lunar_parts_in_month)
+    }
+
+    /// A count day, whole days since the epoch, as the register has it.
+    pub fn register_day(&self, count_day: i128) -> i128 {
+        count_day + self.register_day_of_count_day_0
     }
 
     /// The year's qi in order, the solstice first.
@@ -108,27 +154,28 @@ impl System {
     /// in whole units.
     fn step(&self, year: i128, i: i128, steps: i128, units_in_part: i128) -> Moment {
         let fine_in_part = units_in_part * steps;
-        let fine_in_day = self.parts_in_day * fine_in_part;
-        let fine_in_step = self.parts_in_year * units_in_part;
-        let moment = self.solstice_parts(year) * fine_in_part + i * fine_in_step;
+        let fine_in_day = self.solar_parts_in_day * fine_in_part;
+        let fine_in_step = self.solar_parts_in_year * units_in_part;
+        let Solar(solstice) = self.solstice(year);
+        let moment = solstice * fine_in_part + i * fine_in_step;
         let left_of_day = moment % fine_in_day;
         let left_of_part = left_of_day % fine_in_part;
         assert!(left_of_part % steps == 0, "a step begins between two units");
         Moment {
-            day: moment / fine_in_day - self.count_day_minus,
+            day: self.register_day(moment / fine_in_day),
             parts: left_of_day / fine_in_part,
             units: left_of_part / steps,
         }
     }
 }
 
-/// The sixty-day name, by one rule for both systems.
+/// The sixty-day name, by one rule for every system.
 pub fn name_of(register_day: i128) -> u8 {
     (register_day + 49).rem_euclid(60) as u8
 }
 
-/// The register day that a qi or a pentad falls on, and the parts and units of
-/// a part past its beginning.
+/// The register day that a qi or a pentad falls on, and the solar parts and
+/// units of a part past its beginning.
 pub struct Moment {
     pub day: i128,
     pub parts: i128,
@@ -136,8 +183,8 @@ pub struct Moment {
 }
 
 pub struct Month {
-    /// Its own new moon, in parts from the epoch.
-    pub new_moon: i128,
+    /// Its own new moon.
+    pub new_moon: Lunar,
     pub head: i128,
     pub length: i128,
     pub number: u8,
@@ -152,7 +199,7 @@ impl Month {
 
 pub struct Year {
     pub number: i128,
-    pub solstice_parts: i128,
+    pub solstice: Solar,
     pub solstice_day: i128,
     pub solstice_remainder: i128,
     pub qi: Vec<Moment>,
@@ -232,24 +279,18 @@ impl Table {
     }
 }
 
-/// Both systems. The walk from the epoch is long, so a table is made when it
-/// is first asked for, and a refused request needs none.
-pub struct Tables {
-    guantian: OnceCell<Table>,
-    jiyuan: OnceCell<Table>,
-}
+/// A table for each of the systems. The walk from the epoch is long, so it is
+/// made when it is first asked for, and a refused request needs none.
+pub struct Tables([OnceCell<Table>; SYSTEMS.len()]);
 
 impl Tables {
     pub fn new() -> Tables {
-        Tables { guantian: OnceCell::new(), jiyuan: OnceCell::new() }
+        Tables(SYSTEMS.map(|_| OnceCell::new()))
     }
 
     pub fn table(&self, system: u8) -> Option<&Table> {
-        match system {
-            1 => Some(self.guantian.get_or_init(|| Table::new(&GUANTIAN))),
-            2 => Some(self.jiyuan.get_or_init(|| Table::new(&JIYUAN))),
-            _ => None,
-        }
+        let place = SYSTEMS.iter().position(|other| other.number == system)?;
+        Some(self.0[place].get_or_init(|| Table::new(SYSTEMS[place])))
     }
 }
 
@@ -257,10 +298,13 @@ impl Tables {
 /// epoch itself, and each comes M parts after the one before it.
 fn all_years(system: &'static System) -> Vec<Year> {
     // It is a long way to the first of them, on which no day is looked at
-    // until a year before its solstice.
-    let mut moon = 0;
-    while moon < system.solstice_parts(-1) {
-        moon += system.parts_in_month;
+    // until the solstice's day of the year before. A day begins a whole number
+    // of days after the epoch, which lunar parts can tell as well.
+    let days = system.solstice_day(-1) - system.register_day(0);
+    let day_begins = Lunar(days * system.lunar_parts_in_day);
+    let mut moon = Lunar(0);
+    while moon < day_begins {
+        moon = system.next_moon(moon);
     }
     // A year opens with the month that holds its solstice's day.
     walk_to_month_with(system, &mut moon, system.solstice_day(0));
@@ -275,41 +319,40 @@ fn all_years(system: &'static System) -> Vec<Year> {
 }
 
 /// Steps forward while the next month's first day is not past the day.
-fn walk_to_month_with(system: &System, moon: &mut i128, day: i128) {
-    assert!(system.register_day_of(*moon) <= day);
-    while system.register_day_of(*moon + system.parts_in_month) <= day {
-        *moon += system.parts_in_month;
+fn walk_to_month_with(system: &System, moon: &mut Lunar, day: i128) {
+    assert!(system.day_of_moon(*moon) <= day);
+    while system.day_of_moon(system.next_moon(*moon)) <= day {
+        *moon = system.next_moon(*moon);
     }
 }
 
-fn year_between(system: &System, number: i128, first_moon: i128, end_moon: i128) -> Year {
+fn year_between(system: &System, number: i128, first_moon: Lunar, end_moon: Lunar) -> Year {
     let qi = system.qi(number);
     let mut months = Vec::new();
     let mut moon = first_moon;
     while moon < end_moon {
         months.push(month_at(system, &qi, moon, months.last()));
-        moon += system.parts_in_month;
+        moon = system.next_moon(moon);
     }
     assert!(moon == end_moon);
-    let solstice_parts = system.solstice_parts(number);
     Year {
         number,
-        solstice_parts,
+        solstice: system.solstice(number),
         solstice_day: system.solstice_day(number),
-        solstice_remainder: system.remainder_of(solstice_parts),
+        solstice_remainder: system.solstice_remainder(number),
         qi,
         months,
-        head: system.register_day_of(first_moon),
-        next_head: system.register_day_of(end_moon),
+        head: system.day_of_moon(first_moon),
+        next_head: system.day_of_moon(end_moon),
     }
 }
 
-fn month_at(system: &System, qi: &[Moment], new_moon: i128, before: Option<&Month>) -> Month {
+fn month_at(system: &System, qi: &[Moment], new_moon: Lunar, before: Option<&Month>) -> Month {
     // The numbers of the months that hold the year's middle qi, in order.
     const NUMBERS: [u8; 12] = [11, 12, 1, 2, 3, 4, 5, 6, 7, 8, 9, 10];
     // Its days run from the day of its new moon to the day before the next.
-    let head = system.register_day_of(new_moon);
-    let next = system.register_day_of(new_moon + system.parts_in_month);
+    let head = system.day_of_moon(new_moon);
+    let next = system.day_of_moon(system.next_moon(new_moon));
     let mut held = Vec::new();
     for j in 0..12 {
         // The qi's day decides: on the first day it may come before the moon.

@@ -57,6 +57,7 @@ pub fn system_asked(number: &Number) -> Result<u8, u8> {
     match number.small() {
         Some(1) => Ok(1),
         Some(2) => Ok(2),
+        Some(3) => Ok(3),
         _ => Err(4),
     }
 }

@@ -7,7 +7,7 @@
 
 use crate::citation::{answer, store, Refusal, Stored};
 use crate::random::Random;
-use crate::reckoning::{name_of, Tables, Place, Table, FIRST_YEAR, LAST_YEAR};
+use crate::reckoning::{name_of, Place, Table, Tables, FIRST_YEAR, LAST_YEAR, SYSTEMS};
 use std::io::{self, Write};
 
 fn frame(
@@ -97,6 +97,24 @@ pub fn leap_marks(table: &Table) -> Vec<(Vec<u8>, Result<Stored, Refusal>)> {
 pub fn marks(table: &Table, out: &mut impl Write) -> io::Result<()> {
     for (input, expected) in leap_marks(table) {
         frame(out, &input, 10, &expected)?;
+    }
+    Ok(())
+}
+
+/// Citations by register days around the ends of years 1 to 3000 and of the
+/// numbers that a machine holds, and around count day 0, before which a system
+/// has no days to reckon with. What is expected comes from the list of days.
+pub fn outside(table: &Table, out: &mut impl Write) -> io::Result<()> {
+    let system = table.system.number;
+    let (first, end) = (table.first_day, table.year(LAST_YEAR + 1).head);
+    let count_day_0 = table.system.register_day(0);
+    for around in [0, count_day_0, 65_536, first, end, 16_777_216, 2_147_483_648, 4_294_967_295] {
+        for day in around - 400..=around + 400 {
+            let Ok(cited) = u32::try_from(day) else { continue };
+            let [a, b, c, d] = cited.to_le_bytes();
+            let expected = table.place(day).map(|place| stored_at(system, place, day));
+            frame(out, &[9, 0, 4, 0, system, a, b, c, d], 10, &expected.ok_or(Refusal::plain(7)))?;
+        }
     }
     Ok(())
 }
@@ -198,26 +216,24 @@ fn garbage(random: &mut Random, end: &mut Vec<u8>) {
 struct Maker<'a> {
     tables: &'a Tables,
     /// Days in leap months, by system: rare, so they are kept apart.
-    leap_days: [Vec<usize>; 2],
+    leap_days: [Vec<usize>; SYSTEMS.len()],
     /// Register days at the edges of what is accepted.
     edges: Vec<u32>,
 }
 
 impl<'a> Maker<'a> {
     fn new(tables: &'a Tables) -> Maker<'a> {
-        let mut leap_days = [Vec::new(), Vec::new()];
+        let mut leap_days = SYSTEMS.map(|_| Vec::new());
         let mut edges = vec![0, 1, u32::MAX - 1, u32::MAX];
-        for system in 1..=2 {
-            let table = tables.table(system).unwrap();
+        for (system, leap_days) in SYSTEMS.iter().zip(&mut leap_days) {
+            let table = tables.table(system.number).unwrap();
             for (i, place) in table.places.iter().enumerate() {
                 if place.leap {
-                    leap_days[system as usize - 1].push(i);
+                    leap_days.push(i);
                 }
             }
-            for head in [table.year(1).head, table.year(3001).head] {
-                for near in head - 3..=head + 3 {
-                    edges.push(near as u32);
-                }
+            for edge in [system.register_day(0), table.year(1).head, table.year(3001).head] {
+                edges.extend((edge - 3..=edge + 3).filter_map(|near| u32::try_from(near).ok()));
             }
         }
         Maker { tables, leap_days, edges }
@@ -225,17 +241,18 @@ impl<'a> Maker<'a> {
 
     /// A record that nothing speaks against, of any kind and system.
     fn valid(&self, random: &mut Random) -> Vec<u8> {
-        let system = random.between(1, 2);
-        let table = self.tables.table(system as u8).unwrap();
+        let place = random.below(SYSTEMS.len());
+        let system = SYSTEMS[place].number;
+        let table = self.tables.table(system).unwrap();
         let days = table.places.len();
         let i = match random.below(8) {
-            0 | 1 => random.pick(&self.leap_days[system - 1]),
+            0 | 1 => random.pick(&self.leap_days[place]),
             2 => random.below(800),
             3 => days - 1 - random.below(800),
             _ => random.below(days),
         };
         let kind = random.between(1, 4) as u8;
-        citation_of(system as u8, kind, table.places[i], table.first_day + i as i128)
+        citation_of(system, kind, table.places[i], table.first_day + i as i128)
     }
 
     /// A record with no damage, some or much.
@@ -283,7 +300,7 @@ impl<'a> Maker<'a> {
             // The system.
             4 | 5 => {
                 let any = random.byte();
-                let system = random.pick(&[0, 3, 255, 1, 2, any]);
+                let system = random.pick(&[0, 4, 255, 1, 2, 3, any]);
                 put(record, 4, system);
             }
             // The year, or the low half of the register day.
