@@ -11,7 +11,7 @@
 enum {
     KINDS = 4,
     FIELDS = 5,               /* the most that a kind has */
-    FIRST_DAY = 1721407,      /* of years 1 to 3000, in both systems */
+    FIRST_DAY = 1721407,      /* of years 1 to 3000, in every system */
     LAST_DAY = 2817138,
     ROOM = CHISELBROW_CITATION_ROOM + 4,
     UNTOUCHED = 0xA5
@@ -212,11 +212,11 @@ static void check_reader(void)
     } changes[] = {
         {"length field 9", 0, 9, 0},   {"length field 266", 1, 1, 0}, {"kind 0", 2, 0, 0},
         {"kind 2", 2, 2, 0},           {"kind 257", 3, 1, 0},         {"system 0", 4, 0, 0},
-        {"system 2", 4, 2, 1},         {"system 3", 4, 3, 0},         {"year 3000", 5, 0xB8, 1},
-        {"year 3001", 5, 0xB9, 0},     {"year 2817", 5, 0x01, 1},     {"year 65464", 6, 0xFF, 0},
-        {"month 0", 7, 0, 0},          {"month 12", 7, 12, 1},        {"month 13", 7, 13, 0},
-        {"leap mark 2", 8, 2, 0},      {"day 0", 9, 0, 0},            {"day 30", 9, 30, 1},
-        {"day 31", 9, 31, 0},
+        {"system 2", 4, 2, 1},         {"system 3", 4, 3, 1},         {"system 4", 4, 4, 0},
+        {"year 3000", 5, 0xB8, 1},     {"year 3001", 5, 0xB9, 0},     {"year 2817", 5, 0x01, 1},
+        {"year 65464", 6, 0xFF, 0},    {"month 0", 7, 0, 0},          {"month 12", 7, 12, 1},
+        {"month 13", 7, 13, 0},        {"leap mark 2", 8, 2, 0},      {"day 0", 9, 0, 0},
+        {"day 30", 9, 30, 1},          {"day 31", 9, 31, 0},
     };
     static const uint8_t year_0[] = {0x0A, 0, 1, 0, 1, 0, 0, 5, 0, 1};
     static const uint8_t eleven[] = {0x0A, 0, 1, 0, 1, 0x46, 0x04, 5, 0, 1, 0};
@@ -248,7 +248,8 @@ int main(void)
     check_bytes();
     unsigned refused = check_out_of_range();
     check_reader();
-    unsigned days = check_every_day(CHISELBROW_GUANTIAN) + check_every_day(CHISELBROW_JIYUAN);
+    unsigned days = check_every_day(CHISELBROW_GUANTIAN) + check_every_day(CHISELBROW_JIYUAN) +
+                    check_every_day(CHISELBROW_JINGCHU);
     printf("builders: %u days cited in four kinds and read back; %u numbers out of range refused\n", days, refused);
     return 0;
 }

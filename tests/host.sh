@@ -1,5 +1,6 @@
 #!/usr/bin/env bash
-# The example host: case 9 in all four kinds, refusals, arguments that are no hex, an output that is full.
+# The example host: case 9 and a day of Jingchu in all four kinds, refusals, arguments that are no hex, an output that
+# is full.
 set -euo pipefail
 cd "$(dirname "$0")/.."
 
@@ -19,16 +20,25 @@ expect "$stored" 0A 00 01 00 01 46 04 05 00 01
 expect "$stored" '0A 00 02 00 01 46 04 05 00 25'
 expect "$stored" 0900030001 4604d000
 expect "$stored" 090004000168 ' 5c20 00 '
+stored='0 day 1808315
+record 0A 00 01 00 03 EE 00 0A 01 01'
+expect "$stored" 0A 00 01 00 03 EE 00 0A 01 01
+expect "$stored" 0A 00 02 00 03 EE 00 0A 01 18
+expect "$stored" 09 00 03 00 03 EE 00 63 01
+expect "$stored" 09 00 04 00 03 BB 97 1B 00
 
 expect '1 refused 1' ''
 expect '1 refused 3' 0A 00 04 00 01 68 5C 20 00
+expect '1 refused 4' 09 00 04 00 04 68 5C 20 00
 expect '1 refused 6' 0A 00 01 00 01 46 04 0D 01 01
 expect '1 refused 6' 0A 00 02 00 01 46 04 05 02 25
 expect '1 refused 10 4' 0A 00 01 00 01 46 04 05 01 01
 expect '1 refused 10 4' 0A 00 02 00 01 46 04 05 01 25
 expect '1 refused 10 0' 0A 00 01 00 01 44 04 05 01 01
 expect '1 refused 10 0' 0A 00 02 00 01 44 04 05 01 25
+expect '1 refused 10 10' 0A 00 01 00 03 EE 00 0B 01 01
 expect '1 refused 7' 09 00 03 00 01 46 04 81 01
+expect '1 refused 7' 09 00 04 00 03 CE 09 05 00
 
 expect '2 '
 expect '2 ' 0

@@ -29,11 +29,13 @@ struct lot {
 };
 
 static const struct lot lots[] = {
-    /* In both systems: month 5, day 1, and month 7, day 2. */
+    /* In every system: month 5, day 1, and month 7, day 2. */
     {CHISELBROW_GUANTIAN, FIRST, 5, 0, {0x0A, 0, 1, 0, 1, 0x46, 0x04, 5, 0, 1}},
     {CHISELBROW_GUANTIAN, SECOND, 7, 0, {0x0A, 0, 1, 0, 1, 0x46, 0x04, 7, 0, 2}},
     {CHISELBROW_JIYUAN, FIRST, 5, 0, {0x0A, 0, 1, 0, 2, 0x46, 0x04, 5, 0, 1}},
     {CHISELBROW_JIYUAN, SECOND, 7, 0, {0x0A, 0, 1, 0, 2, 0x46, 0x04, 7, 0, 2}},
+    {CHISELBROW_JINGCHU, FIRST, 5, 0, {0x0A, 0, 1, 0, 3, 0x46, 0x04, 5, 0, 1}},
+    {CHISELBROW_JINGCHU, SECOND, 7, 0, {0x0A, 0, 1, 0, 3, 0x46, 0x04, 7, 0, 2}},
 };
 
 /* A citation of the lot must name its day and be stored as its record. */

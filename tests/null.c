@@ -30,7 +30,7 @@ int main(void)
     uint8_t output[12], before[12];
 
     chiselbrow_cite_day(cited, CHISELBROW_GUANTIAN, 2120808);
-    chiselbrow_cite_day(no_system, 3, 2120808);
+    chiselbrow_cite_day(no_system, 4, 2120808);
     chiselbrow_cite_date(not_leap, CHISELBROW_GUANTIAN, 1094, 5, 1, 1);
     memset(output, 0xA5, sizeof output);
     memcpy(before, output, sizeof output);

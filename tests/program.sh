@@ -1,6 +1,6 @@
 #!/usr/bin/env bash
-# What the program writes, and how it ends: nothing for nothing, case 9, random streams, and streams cut at every
-# length. SEED=N repeats a run.
+# What the program writes, and how it ends: nothing for nothing, case 9, records of Jingchu, random streams, and streams
+# cut at every length. SEED=N repeats a run.
 set -euo pipefail
 cd "$(dirname "$0")/.."
 name=program
@@ -24,6 +24,55 @@ refused 1
 END
 run build/chiselbrow < examples/case-9.bin
 told 'case 9' 1 "$scratch/expected" 'chiselbrow: standard input: no record at byte 38'
+
+# The bytes that standard input has in hex.
+bytes() {
+    printf '%b' "$(tr -d ' \n' | sed 's/../\\x&/g')"
+}
+
+# Jingchu: the first day of a leap month in all four kinds; leap months that are not there; days outside of years 1 to
+# 3000, among them those around count day 0, which is 330191, and the first and the last day within. And two systems
+# that there are not.
+bytes > "$scratch/jingchu" << 'END'
+0A 00 01 00 03 EE 00 0A 01 01
+0A 00 02 00 03 EE 00 0A 01 18
+09 00 03 00 03 EE 00 63 01
+09 00 04 00 03 BB 97 1B 00
+0A 00 01 00 03 EE 00 0B 01 01
+0A 00 02 00 03 ED 00 0A 01 18
+09 00 04 00 03 00 00 00 00
+09 00 04 00 03 01 00 00 00
+09 00 04 00 03 CE 09 05 00
+09 00 04 00 03 CF 09 05 00
+09 00 04 00 03 D0 09 05 00
+09 00 04 00 03 3E 44 1A 00
+09 00 04 00 03 3F 44 1A 00
+09 00 04 00 03 72 FC 2A 00
+09 00 04 00 03 73 FC 2A 00
+09 00 04 00 04 BB 97 1B 00
+09 00 04 00 00 BB 97 1B 00
+END
+cat > "$scratch/expected" << 'END'
+W 238 10* 1 1808315 24
+W 238 10* 1 1808315 24
+W 238 10* 1 1808315 24
+W 238 10* 1 1808315 24
+refused 10 10
+refused 10 0
+refused 7
+refused 7
+refused 7
+refused 7
+refused 7
+refused 7
+W 1 11 1 1721407 56
+W 3000 10 29 2817138 7
+refused 7
+refused 4
+refused 4
+END
+run build/chiselbrow < "$scratch/jingchu"
+told 'records of Jingchu' 0 "$scratch/expected" ''
 
 # Ten streams that stay the same, ten new ones and a large one.
 whole() {

@@ -7,7 +7,7 @@ sevens() {
 }
 
 # Systems that there are not, some of which would come out right if they were cut to 8, 16, 32 or 64 bits.
-wrong_systems=(0 3 257 65537 4294967297 18446744073709551617 "$(sevens 131071)")
+wrong_systems=(0 4 257 65538 4294967299 18446744073709551617 "$(sevens 131071)")
 
 # The almanac must answer what the independent program answers.
 same() {
@@ -89,12 +89,12 @@ endless_ranges() {
 # is not.
 years_of_all_sorts() {
     local system
-    for system in 1 2; do
+    for system in 1 2 3; do
         years_outside "$system"
         long_years "$system"
         endless_ranges "$system"
     done
-    for system in 1 2 3; do
+    for system in 1 2 3 4; do
         odd_ranges "$system"
     done
 }

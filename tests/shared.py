@@ -1,5 +1,5 @@
 #!/usr/bin/env python3
-"""The shared library, called from Python: case 9, refusals, and outputs that are long and short."""
+"""The shared library, called from Python: case 9, a day of Jingchu, refusals, and outputs that are long and short."""
 
 import ctypes
 import os
@@ -16,10 +16,17 @@ CASE_9 = [
     "09 00 03 00 01 46 04 D0 00",
     "09 00 04 00 01 68 5C 20 00",
 ]
-STORED = bytes.fromhex(CASE_9[0])
+JINGCHU_238 = [
+    "0A 00 01 00 03 EE 00 0A 01 01",
+    "0A 00 02 00 03 EE 00 0A 01 18",
+    "09 00 03 00 03 EE 00 63 01",
+    "09 00 04 00 03 BB 97 1B 00",
+]
 ORDINAL_385 = "09 00 03 00 01 46 04 81 01"
 LEAP_5_OF_1094 = "0A 00 01 00 01 46 04 05 01 01"
 LEAP_5_OF_1092 = "0A 00 01 00 01 44 04 05 01 01"
+NO_SYSTEM = "0A 00 01 00 04 46 04 05 00 01"
+BEFORE_COUNT_DAY_0 = "09 00 04 00 03 CE 09 05 00"
 
 
 def check(cited, room, answer, stored):
@@ -34,16 +41,19 @@ def check(cited, room, answer, stored):
         sys.exit(f"shared.py: {cited}, room for {room}: {came:#x}, output {bytes(output).hex(' ')}")
 
 
-for record in CASE_9:
-    check(record, 10, 2120808, STORED)
-    check(record, 16, 2120808, STORED)
-    check(record, 9, 8 << 32, b"")
-    check(record, 0, 8 << 32, b"")
+for day, records in (2120808, CASE_9), (1808315, JINGCHU_238):
+    for record in records:
+        check(record, 10, day, bytes.fromhex(records[0]))
+        check(record, 16, day, bytes.fromhex(records[0]))
+        check(record, 9, 8 << 32, b"")
+        check(record, 0, 8 << 32, b"")
 for room in 0, 9, 10, 16:
     check(ORDINAL_385, room, 7 << 32, b"")
     check(LEAP_5_OF_1094, room, 4 << 40 | 10 << 32, b"")
     check(LEAP_5_OF_1092, room, 10 << 32, b"")
+    check(NO_SYSTEM, room, 4 << 32, b"")
+    check(BEFORE_COUNT_DAY_0, room, 7 << 32, b"")
 check("", 16, 1 << 32, b"")
 if store(None, 0, None, 0) != 1 << 32:
     sys.exit("shared.py: null pointers are not refused 1")
-print("shared.py: case 9 in four kinds, refusals that change no byte, outputs long and short")
+print("shared.py: two days in four kinds, refusals that change no byte, outputs long and short")

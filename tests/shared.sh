@@ -30,6 +30,9 @@ expect 'case 9' "0 day 2120808
 record 0A 00 01 00 01 46 04 05 00 01" "$(example 1 1094 5 0 1)"
 expect 'a leap month' "0 day 2120778
 record 0A 00 01 00 01 46 04 04 01 01" "$(example 1 1094 4 1 1)"
+expect 'a leap month of Jingchu' "0 day 1808315
+record 0A 00 01 00 03 EE 00 0A 01 01" "$(example 3 238 10 1 1)"
+expect 'no such system' '1 refused 4' "$(example 4 1094 5 0 1)"
 expect 'no such leap month' '1 refused 10 4' "$(example 1 1094 5 1 1)"
 expect 'a year of twelve months' '1 refused 10 0' "$(example 1 1092 5 1 1)"
 expect 'month 13, marked leap' '1 refused 6' "$(example 1 1094 13 1 1)"
