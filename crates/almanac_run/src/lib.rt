@@ -94,8 +94,8 @@ fn help() -> u32
         almanac --help | --version\n\
         \n\
         year prints the page of YEAR, or of each year from YEAR to LAST, by the calendar\n\
-        with the number SYSTEM: 1 is Guantian, 2 is Jiyuan. A year begins with month 11,\n\
-        late in the common year before it.\n\
+        with the number SYSTEM: 1 is Guantian, 2 is Jiyuan, 3 is Jingchu. A year begins\n\
+        with month 11, late in the common year before it.\n\
         pentads prints the 72 pentads of YEAR, or of each year from YEAR to LAST: the\n\
         steps of some five days that divide the year from its winter solstice on.\n\
         pentad prints the pentad in force at the end of the register day DAY, a Julian\n\
@@ -105,7 +105,8 @@ fn help() -> u32
         differ between the calendars with the numbers FIRST and SECOND.\n\
         In place of a page or line stands `refused 4` if there is no such calendar,\n\
         `refused 5` if the year is outside 1 to 3000, and `refused 7` if the day is\n\
-        outside these years as counted from solstice to solstice, 1721414 to 2817144.\n\
+        outside these years as counted from solstice to solstice: 1721414 to 2817144,\n\
+        and for Jingchu 1721416 to 2817156.\n\
         The manual page almanac(1) tells the lines and the exit status.\n";
     exit::reply(text, b"almanac: standard output")
 }

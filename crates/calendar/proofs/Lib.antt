@@ -29,3 +29,5 @@ pub mod PentadLaws
 pub mod NameLaws
 -- The list, checked for each system.
 pub mod EachSystem
+-- Jingchu's constants against its treatise.
+pub mod Jingchu

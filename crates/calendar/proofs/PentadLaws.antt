@@ -4,7 +4,7 @@ use mathlib.Core.Path.{_≡_, refl, ap, subst, sym}
 use mathlib.Core.Logic.{_↔_}
 use native.Mathlib.Omega.{arith}
 use Rattle.calendar.specs.declared.data.Constants.{Constants}
-use Rattle.calendar.specs.Systems.{guantian, jiyuan}
+use Rattle.calendar.specs.Systems.{guantian, jiyuan, jingchu}
 use Rattle.calendar.specs.Steps.{solsticeDay, solsticeRemainder, step, dayOf, partsOf, unitsOf}
 use Rattle.calendar.specs.Qi.{qi}
 use Rattle.calendar.specs.Pentad.{pentad, pentadDay, InForce, InSolarYear}
@@ -22,6 +22,10 @@ guantian-pentad-step = refl
 -- The step of 003: 5 days, 530 parts and 55 sixtieths.
 pub jiyuan-pentad-step : step jiyuan 72 (jiyuan .denominator) ≡ (5 * 7290 + 530) * 60 + 55
 jiyuan-pentad-step = refl
+
+-- The step of paper 02, Q-6: 5 days, 134 parts and 11 thirty-sixths.
+pub jingchu-pentad-step : step jingchu 72 (jingchu .denominator) ≡ (5 * 1843 + 134) * 36 + 11
+jingchu-pentad-step = refl
 
 module _ (c : Constants) (ok : Consistent c) where
   -- Every third pentad is a qi, to the last unit.

@@ -3,7 +3,7 @@ use Prim.Native.Nat.{ℕ, _+_, _*_}
 use mathlib.Core.Path.{_≡_, refl, _∙_}
 use native.Mathlib.Omega.{arith}
 use Rattle.calendar.specs.declared.data.Constants.{Constants}
-use Rattle.calendar.specs.Systems.{guantian, jiyuan}
+use Rattle.calendar.specs.Systems.{guantian, jiyuan, jingchu}
 use Rattle.calendar.specs.Steps.{solsticeDay, solsticeRemainder, step, dayOf, partsOf, unitsOf}
 use Rattle.calendar.specs.Qi.{qi}
 use Rattle.calendar.specs.Month.{middleQi}
@@ -22,6 +22,10 @@ guantian-double-step = refl
 -- The step that 003 prints, 15 days, 1,592 parts and three quarters.
 pub jiyuan-step : step jiyuan 24 (jiyuan .units) ≡ (15 * 7290 + 1592) * 4 + 3
 jiyuan-step = refl
+
+-- The step that 001 prints, 15 days, 402 parts and 11 small units.
+pub jingchu-step : step jingchu 24 (jingchu .units) ≡ (15 * 1843 + 402) * 12 + 11
+jingchu-step = refl
 
 module _ (c : Constants) (ok : Consistent c) where
   -- Qi 24 of a year is qi 0 of the next.

@@ -99,7 +99,7 @@ month-ends = Outcomes.month-outcome
 pub date-ends : (system r : ℕ) → DateOutcome system r (dateOf system r)
 date-ends = Outcomes.date-outcome
 
--- Demand 2. For systems 1 and 2 and years 1 to 3000, solstice, qi, months and day names are those of the reckoning.
+-- Demand 2. For each system and years 1 to 3000, solstice, qi, months and day names are those of the reckoning.
 module _ (system year : ℕ) (i : InScope system year) where
   abbrev c : Constants
   c = constantsOf system

@@ -1,4 +1,4 @@
--- The proved examples of paper 01 as paper 02, Q-2, has them, and those of Q-3 and Q-4: one statement over a table,
+-- The proved examples of paper 01 as paper 02, Q-2, has them, and those of Q-3, Q-4 and Q-6: one statement over a table,
 -- computed.
 use Prim.Native.Nat.{ℕ, _+_, _*_, _-_, _^_, _/_, _%_}
 use mathlib.Core.Path.{_≡_, refl}
@@ -21,8 +21,9 @@ use Rattle.reckoning.specs.YearValue.{headIn, numberIn, leapIn}
 pub data Question : Type 0 where
   -- the day, name and remainder of a solstice
   Solstice : ℕ → ℕ → Question
-  -- how many parts a year's first new moon stands before the solstice, where solar and lunar parts are one; its day,
-  -- name and remainder
+  -- the day, name and remainder of a year's first new moon; before them, where solar and lunar parts are one, how many
+  -- parts it stands before the solstice
+  Moon : ℕ → ℕ → Question
   FirstMoon : ℕ → ℕ → Question
   -- the day of a qi; how many days and how many parts it falls before the new moon of a month by its place from 1,
   -- where solar and lunar parts are one
@@ -44,14 +45,20 @@ pub data Question : Type 0 where
   Answer : List ℕ → Question
   Stored : List ℕ → Question
 
+firstMoon : ℕ → ℕ → List ℕ
+firstMoon system year =
+    let c = constantsOf system in
+    let moon = newMoon c (firstMonth c (yearsElapsed c year)) in
+    let head = headIn (yearOf system year) 0 in
+    head ∷ (nameOf head) ∷ (moon % c .lunar) ∷ []
+
 pub answer : Question → List ℕ
 answer (Solstice system year) = let v = solsticeOf system year in (v .day .0) ∷ (nameOf (v .day .0)) ∷ (v .remainder) ∷ []
+answer (Moon system year) = firstMoon system year
 answer (FirstMoon system year) =
     let c = constantsOf system in
     let n = yearsElapsed c year in
-    let moon = newMoon c (firstMonth c n) in
-    let head = headIn (yearOf system year) 0 in
-    (solstice c n - moon) ∷ head ∷ (nameOf head) ∷ (moon % c .lunar) ∷ []
+    (solstice c n - newMoon c (firstMonth c n)) ∷ firstMoon system year
 answer (Qi system year i) = ((qiOf system year i) .day .0) ∷ []
 answer (BeforeMoon system year i place) =
     let c = constantsOf system in
@@ -78,7 +85,7 @@ answer (Stored s) = storedInto s (replicate 10 0)
 then : ℕ → List ℕ → List ℕ
 then n rest = (n % 256) ∷ (n / 256) ∷ rest
 
--- Citations by ordinal, by date and by name.
+-- Citations by ordinal, by date, by name and by register day.
 byOrdinal : ℕ → ℕ → ℕ → List ℕ
 byOrdinal system year ordinal = 9 ∷ 0 ∷ 3 ∷ 0 ∷ system ∷ then year (then ordinal [])
 
@@ -87,6 +94,9 @@ byDate system year month leap day = 10 ∷ 0 ∷ 1 ∷ 0 ∷ system ∷ then yea
 
 byName : ℕ → ℕ → ℕ → ℕ → ℕ → List ℕ
 byName system year month leap name = 10 ∷ 0 ∷ 2 ∷ 0 ∷ system ∷ then year (month ∷ leap ∷ name ∷ [])
+
+byDay : ℕ → ℕ → List ℕ
+byDay system r = 9 ∷ 0 ∷ 4 ∷ 0 ∷ system ∷ then (r % 65_536) (then (r / 65_536) [])
 
 -- The first record of case 9, as which all four are stored.
 pub first-of-case-9 : List ℕ
@@ -181,9 +191,50 @@ table =
     ∷ (InForceOn 2 2_817_144 gives (0 ∷ 3000 ∷ 71 ∷ []))
     ∷ (InForceOn 2 2_817_145 gives (7 ∷ 0 ∷ 0 ∷ []))
     ∷ (InForceOn 4 0 gives (4 ∷ 0 ∷ 0 ∷ []))
+    -- Q-6: the solstice of 237, its year, and the next, whose last month is leap 10
+    ∷ (Solstice 3 237 gives (1_807_614 ∷ 43 ∷ 1161 ∷ []))
+    ∷ (Moon 3 237 gives (1_807_606 ∷ 35 ∷ 3915 ∷ []))
+    ∷ (Months 3 237 gives (12 ∷ []))
+    ∷ (Days 3 237 gives (355 ∷ []))
+    ∷ (Months 3 238 gives (13 ∷ []))
+    ∷ (Number 3 238 13 gives (10 ∷ 1 ∷ []))
+    ∷ (Month 3 238 13 gives (1_808_315 ∷ 30 ∷ []))
+    -- solstice and new moon of 239 at one moment, 228 of 1,843 parts and 564 of 4,559
+    ∷ (Solstice 3 239 gives (1_808_345 ∷ 54 ∷ 228 ∷ []))
+    ∷ (Moon 3 239 gives (1_808_345 ∷ 54 ∷ 564 ∷ []))
+    -- year 8 has leap 1 by the days of the middle qi; by their moments it would be leap 2
+    ∷ (Number 3 8 4 gives (1 ∷ 1 ∷ []))
+    -- and 236 leap 2, where the rounding of 001 would have the fourth month leap
+    ∷ (Number 3 236 5 gives (2 ∷ 1 ∷ []))
+    -- four records of one day
+    ∷ (Stored (byDate 3 238 10 1 1) gives byDate 3 238 10 1 1)
+    ∷ (Stored (byName 3 238 10 1 24) gives byDate 3 238 10 1 1)
+    ∷ (Stored (byOrdinal 3 238 355) gives byDate 3 238 10 1 1)
+    ∷ (Stored (byDay 3 1_808_315) gives byDate 3 238 10 1 1)
+    -- the first and the last day of the years 1 and 3000, and those beside them
+    ∷ (Stored (byDay 3 1_721_407) gives byDate 3 1 11 0 1)
+    ∷ (Stored (byDay 3 1_721_760) gives byDate 3 1 10 0 30)
+    ∷ (Stored (byDay 3 2_816_785) gives byDate 3 3000 11 0 1)
+    ∷ (Stored (byDay 3 2_817_138) gives byDate 3 3000 10 0 29)
+    ∷ (Refusal (byDay 3 1_721_406) gives (7 ∷ 0 ∷ []))
+    ∷ (Refusal (byDay 3 2_817_139) gives (7 ∷ 0 ∷ []))
+    ∷ (Refusal (byDay 4 1_808_315) gives (4 ∷ 0 ∷ []))
+    -- days before the epoch, and the epoch
+    ∷ (Refusal (byDay 3 0) gives (7 ∷ 0 ∷ []))
+    ∷ (Refusal (byDay 3 330_190) gives (7 ∷ 0 ∷ []))
+    ∷ (Refusal (byDay 3 330_191) gives (7 ∷ 0 ∷ []))
+    -- from the solstice of 237 one pentad, and three, which are a qi; the first and the last day of the years 1 to 3000
+    ∷ (Pentad 3 237 1 gives (0 ∷ 1_807_619 ∷ 48 ∷ 1295 ∷ 11 ∷ []))
+    ∷ (Pentad 3 237 3 gives (0 ∷ 1_807_629 ∷ 58 ∷ 1563 ∷ 33 ∷ []))
+    ∷ (Qi 3 237 1 gives (1_807_629 ∷ []))
+    ∷ (InForceOn 3 330_190 gives (7 ∷ 0 ∷ 0 ∷ []))
+    ∷ (InForceOn 3 1_721_415 gives (7 ∷ 0 ∷ 0 ∷ []))
+    ∷ (InForceOn 3 1_721_416 gives (0 ∷ 1 ∷ 0 ∷ []))
+    ∷ (InForceOn 3 2_817_156 gives (0 ∷ 3000 ∷ 71 ∷ []))
+    ∷ (InForceOn 3 2_817_157 gives (7 ∷ 0 ∷ 0 ∷ []))
     ∷ []
 
 pub examples : map asked table ≡ map expected table
-unfolding answer asked expected table first-of-case-9 then byOrdinal byDate byName solsticeOf stepOf inForceIn pentadInForce yearOf yearRefusal stepRefusal monthsFrom filled
+unfolding firstMoon answer asked expected table first-of-case-9 then byOrdinal byDate byName byDay solsticeOf stepOf inForceIn pentadInForce yearOf yearRefusal stepRefusal monthsFrom filled
     lastLeap refusalOf answerOf storedInto judgeOf lengthRight judgeKind judgeDay judgeName judgeOrdinal judgeRegisterDay daysOf monthOf monthIn dateOf dateIn
 examples = refl
