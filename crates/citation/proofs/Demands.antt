@@ -17,8 +17,8 @@ use Rattle.calendar.proofs.Laws.{month-days, year-months, months-cover, months-
 use Rattle.reckoning.specs.Scope.{InScope}
 use Rattle.reckoning.specs.WordedRefusals.{FirstOf, yearRows, qiRows}
 use Rattle.reckoning.specs.ComputedRefusals.{yearRefusal, qiRefusal}
-use Rattle.reckoning.specs.Requests.{solsticeOf, noSolstice, qiOf, noMoment, yearOf, noYear, sheetOf, noSheet, daysOf, monthOf, dateOf}
-use Rattle.reckoning.specs.Outcomes.{DaysOutcome, MonthOutcome, DateOutcome}
+use Rattle.reckoning.specs.Requests.{solsticeOf, noSolstice, qiOf, noMoment, yearOf, noYear, sheetOf, noSheet, daysOf, ordinalDayOf, monthOf, dateOf}
+use Rattle.reckoning.specs.Outcomes.{DaysOutcome, OrdinalOutcome, MonthOutcome, DateOutcome}
 use Rattle.reckoning.proofs.RefusedRequests as Blanks
 use Rattle.reckoning.proofs.RequestsEnd as Outcomes
 use Rattle.reckoning.specs.YearValue.{ListsMonths, Tiled}
@@ -89,9 +89,12 @@ module _ (system year : ℕ) (some : yearRefusal system year ≡ 0 → ⊥) wher
 pub qi-blank : (system year q : ℕ) → (qiRefusal system year q ≡ 0 → ⊥) → qiOf system year q ≡ noMoment (qiRefusal system year q)
 qi-blank = Blanks.qi-blank
 
--- How the other three requests end: refused by the table, or found.
+-- How the other requests end: refused by the table, or found.
 pub days-end : (system year : ℕ) → DaysOutcome system year (daysOf system year)
 days-end = Outcomes.days-outcome
+
+pub ordinal-day-ends : (system year ordinal : ℕ) → OrdinalOutcome system year ordinal (ordinalDayOf system year ordinal)
+ordinal-day-ends = Outcomes.ordinal-outcome
 
 pub month-ends : (system year number leap : ℕ) → MonthOutcome system year number leap (monthOf system year number leap)
 month-ends = Outcomes.month-outcome

@@ -14,7 +14,7 @@ use Rattle.calendar.specs.LeapMonth.{lastLeap}
 use Rattle.reckoning.specs.Filled.{filled}
 use Rattle.reckoning.specs.ComputedRefusals.{yearRefusal, stepRefusal}
 use Rattle.reckoning.specs.Requests.{solsticeOf, stepOf, qiOf, pentadOf, inForceIn, pentadInForce, yearOf, monthsFrom}
-use Rattle.reckoning.specs.Requests.{daysOf, monthOf, monthIn, dateOf, dateIn}
+use Rattle.reckoning.specs.Requests.{ordinalDayOf, ordinalDayIn, monthOf, monthIn, dateOf, dateIn}
 use Rattle.citation.specs.Store.{judgeRegisterDay, judgeOrdinal, judgeDay, judgeName, judgeKind, lengthRight, judgeOf, refusalOf, toldOf, answerOf, storedInto}
 use Rattle.reckoning.specs.YearValue.{headIn, numberIn, leapIn}
 
@@ -236,5 +236,5 @@ table =
 
 pub examples : map asked table ≡ map expected table
 unfolding firstMoon answer asked expected table first-of-case-9 then byOrdinal byDate byName byDay solsticeOf stepOf inForceIn pentadInForce yearOf yearRefusal stepRefusal monthsFrom filled
-    lastLeap refusalOf answerOf storedInto judgeOf lengthRight judgeKind judgeDay judgeName judgeOrdinal judgeRegisterDay daysOf monthOf monthIn dateOf dateIn
+    lastLeap refusalOf answerOf storedInto judgeOf lengthRight judgeKind judgeDay judgeName judgeOrdinal judgeRegisterDay ordinalDayOf ordinalDayIn monthOf monthIn dateOf dateIn
 examples = refl

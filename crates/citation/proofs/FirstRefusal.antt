@@ -1,6 +1,6 @@
 -- Every citation is judged by the table: the first refusal that applies, and none otherwise.
 use Prim.Native.Nat.{ℕ}
-use mathlib.Core.Path.{_≡_, refl, subst, ap, sym, _∙_}
+use mathlib.Core.Path.{_≡_, refl, subst, ap, sym}
 use mathlib.Core.Logic.{inl, inr}
 use mathlib.Core.List.{List, [], _∷_}
 use native.Mathlib.Omega.{arith}

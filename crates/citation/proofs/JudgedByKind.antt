@@ -9,19 +9,19 @@ use Rattle.calendar.specs.Inside.{Inside}
 use Rattle.calendar.specs.Systems.{IsRegisterDay}
 use Rattle.calendar.specs.SixtyDayName.{nameOf}
 use Rattle.calendar.specs.Month.{monthHead, InMonth, monthLength, dayOfMonth}
-use Rattle.calendar.specs.Year.{Span, yearLength, dayOfOrdinal, MonthNumbered}
+use Rattle.calendar.specs.Year.{Span, yearLength, MonthNumbered}
 use Rattle.calendar.proofs.EachSystem.{consistent}
 use Rattle.calendar.proofs.Rising.{by-order}
 use Rattle.calendar.proofs.Reckoned.{reckoned}
 use Rattle.calendar.proofs.Spans.{span-first, span-next}
 use Rattle.reckoning.specs.declared.data.Month.{Month}
-use Rattle.reckoning.specs.declared.data.Days.{Days}
+use Rattle.reckoning.specs.declared.data.OrdinalDay.{OrdinalDay}
 use Rattle.reckoning.specs.declared.data.Date.{Date}
 use Rattle.reckoning.specs.Scope.{InScope, DayInScope}
-use Rattle.reckoning.specs.Requests.{daysOf, monthOf, dateOf}
-use Rattle.reckoning.specs.Outcomes.{MonthFound, MonthOutcome, DaysOutcome, DateFound, DateOutcome}
+use Rattle.reckoning.specs.Requests.{ordinalDayOf, monthOf, dateOf}
+use Rattle.reckoning.specs.Outcomes.{MonthFound, MonthOutcome, OrdinalOutcome, DateFound, DateOutcome}
 use Rattle.reckoning.proofs.RefusalCases.{by-inside}
-use Rattle.reckoning.proofs.RequestsEnd.{days-outcome, month-outcome, date-outcome, year-day-in-scope}
+use Rattle.reckoning.proofs.RequestsEnd.{ordinal-outcome, month-outcome, date-outcome}
 use Rattle.reckoning.specs.RefusalNumbers.{SYSTEM, YEAR, MONTH, DAY, LEAP}
 use Rattle.citation.specs.declared.judge.Judgement.{Judgement}
 use Rattle.citation.specs.Record.{kindOf, systemOf, yearField, monthField, leapField, dayField, nameField}
@@ -31,7 +31,7 @@ use Rattle.reckoning.specs.WordedRefusals.{Row, FirstOf}
 use Rattle.citation.specs.CitationRefusals.{contentRows, WrongSystem, WrongYear, WrongMonth, WrongLeap, Placed, NotPlaced, Tells}
 use Rattle.citation.specs.Store.{refuseTelling, refuse, accept, daysToName, judgeRegisterDay, judgeOrdinal, judgeDay, judgeName}
 use Rattle.citation.proofs.OneDay.{month-once}
-use Rattle.citation.proofs.JudgementCases.{date-refused, date-accepted, year-refused, ordinal-wrong, ordinal-right}
+use Rattle.citation.proofs.JudgementCases.{date-refused, date-accepted, ordinal-refused, ordinal-accepted}
 use Rattle.citation.proofs.JudgementCases.{month-refused, day-wrong, day-right}
 use Rattle.citation.proofs.JudgementCases.{name-month-refused, no-name, name-past, name-right}
 
@@ -271,46 +271,37 @@ module _ (s : List ℕ) where
       out (record { at-least = i .at-least; at-most = omega (arith, i .at-most) })
   ordinal-not-placed e y out (Placed.day-in-scope f d) = omega arith
 
-  on-ordinal-judged : (r : ℕ) → kindOf s ≡ 3 → NamesDay s r → DayInScope (systemOf s) r
-      → (d : Date)
-      → d ≡ dateOf (systemOf s) r
-      → DateOutcome (systemOf s) r d
-      → FirstOf (contentRows s) 0
-      → Judged (contentRows s) s (judgeRegisterDay (systemOf s) r)
-  on-ordinal-judged r kind names scope d is (DateOutcome.system-refused w e) rows =
-      absurd (⊎-elim (λ p. omega (arith, p .0)) (λ p. p .0 w) rows)
-  on-ordinal-judged r kind names scope d is (DateOutcome.day-refused i w e) rows = absurd (w scope)
-  on-ordinal-judged r kind names scope d is (DateOutcome.found f) rows =
-      subst (Judged (contentRows s) s) (date-accepted _ _ d is (f .not-refused)) (Judged.accepted refl refl rows (kept-by-date r d names f))
-
-  ordinal-judged-by : kindOf s ≡ 3 → (y : Days) → y ≡ daysOf (systemOf s) (yearField s) → DaysOutcome (systemOf s) (yearField s) y
+  ordinal-judged-by : kindOf s ≡ 3 → (d : OrdinalDay) → d ≡ ordinalDayOf (systemOf s) (yearField s) (ordinalField s)
+      → OrdinalOutcome (systemOf s) (yearField s) (ordinalField s) d
       → Judged (contentRows s) s (judgeOrdinal (systemOf s) (yearField s) (ordinalField s))
-  ordinal-judged-by kind y is (DaysOutcome.system-refused w e) =
-      plainly-refused SYSTEM (omega arith) (refused-as e (λ x. x .refusal) (λ x. 0) (omega arith) (year-refused _ _ _ y is))
+  ordinal-judged-by kind d is (OrdinalOutcome.system-refused w e) =
+      plainly-refused SYSTEM (omega arith) (refused-as e (λ x. x .refusal) (λ x. 0) (omega arith) (ordinal-refused _ _ _ d is))
       (inl (refl, w))
-  ordinal-judged-by kind y is (DaysOutcome.year-refused i w e) =
-      plainly-refused YEAR (omega arith) (refused-as e (λ x. x .refusal) (λ x. 0) (omega arith) (year-refused _ _ _ y is))
+  ordinal-judged-by kind d is (OrdinalOutcome.year-refused i w e) =
+      plainly-refused YEAR (omega arith) (refused-as e (λ x. x .refusal) (λ x. 0) (omega arith) (ordinal-refused _ _ _ d is))
       (inr (λ v. v i, inl (refl, (omega arith, w))))
-  ordinal-judged-by kind y is (DaysOutcome.found f) =
-      let i = f .in-scope in
-      let span-of = f .span in
-      let z = f .not-refused in
-      let l = f .length-is in
-      by-inside 1 (y .length) (ordinalField s)
-      (λ e out.
-      let out-there = subst (λ x. Inside 1 x (ordinalField s) → ⊥) l out in
-      plainly-refused DAY (omega arith) (sym (ordinal-wrong _ _ _ y is z e))
-      (place-rows i (no-month (omega arith)) (inl (refl, ordinal-not-placed kind span-of out-there))))
-      (λ e into.
-      let inside = subst (λ x. Inside 1 x (ordinalField s)) l into in
-      let r = y .head .0 + ordinalField s - 1 in
-      let day-is : IsRegisterDay c r (dayOfOrdinal span-of (ordinalField s)) = omega (arith, into) in
-      subst (Judged (contentRows s) s) (ordinal-right _ _ _ y is z e)
-      (on-ordinal-judged r kind (NamesDay.by-ordinal kind span-of day-is)
-      (year-day-in-scope (systemOf s) (yearField s) r (dayOfOrdinal span-of (ordinalField s)) i day-is
-      (record { span = span-of; from = omega (arith, into); before = omega (arith, inside) }))
-      _ refl (date-outcome (systemOf s) r)
-      (place-rows i (no-month (omega arith)) (inr (λ v. v (Placed.ordinal-in-year kind span-of inside), refl)))))
+  ordinal-judged-by kind d is (OrdinalOutcome.day-refused i span-of out e) =
+      plainly-refused DAY (omega arith) (refused-as e (λ x. x .refusal) (λ x. 0) (omega arith) (ordinal-refused _ _ _ d is))
+      (place-rows i (no-month (omega arith)) (inl (refl, ordinal-not-placed kind span-of out)))
+  ordinal-judged-by kind d is (OrdinalOutcome.found f) =
+      let placed = Placed.ordinal-in-year kind (f .span) (f .inside) in
+      subst (Judged (contentRows s) s) (ordinal-accepted _ _ _ d is (f .not-refused))
+      (Judged.accepted refl refl (place-rows (f .in-scope) (no-month (omega arith)) (inr (λ v. v placed, refl)))
+      (record {
+        year = yearField s;
+        month = d .month;
+        leap = d .leap;
+        day = d .place;
+        dated = record {
+          k = f .k;
+          in-scope = f .in-scope;
+          numbered = f .numbered;
+          placed = record { at-least = omega (arith, f .place-is); at-most = omega (arith, f .place-is, f .in-month) };
+          day-is = omega (arith, f .is-day, f .place-is, f .in-month);
+        };
+        stored = refl;
+        names = NamesDay.by-ordinal kind (f .span) (f .is-day);
+      }))
 
   pub ordinal-judged : kindOf s ≡ 3 → Judged (contentRows s) s (judgeOrdinal (systemOf s) (yearField s) (ordinalField s))
-  ordinal-judged kind = ordinal-judged-by kind _ refl (days-outcome (systemOf s) (yearField s))
+  ordinal-judged kind = ordinal-judged-by kind _ refl (ordinal-outcome (systemOf s) (yearField s) (ordinalField s))

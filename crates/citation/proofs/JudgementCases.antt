@@ -1,5 +1,5 @@
 -- The cases of each kind's judgement: refused by the reckoning, at a wrong place, or accepted.
-use Prim.Native.Nat.{ℕ, _+_, _-_, _%_, _≤_, _<_}
+use Prim.Native.Nat.{ℕ, _+_, _-_, _≤_, _<_}
 use mathlib.Core.Path.{_≡_, refl, ap, ap₂, sym, subst, _∙_}
 use mathlib.Core.Bool.{Bool, true, false, true≢false, cond, _||_}
 use mathlib.Core.List.{List}
@@ -8,22 +8,21 @@ use native.Mathlib.Omega.{arith}
 use lib.ListN.{length}
 use Rattle.reckoning.proofs.RefusalCases.{inside, outside-of}
 use Rattle.calendar.specs.Inside.{Inside}
-use Rattle.calendar.specs.SixtyDayName.{nameOf}
 use Rattle.calendar.proofs.Rising.{by-order}
 use Rattle.reckoning.specs.RefusalNumbers.{SHORT, KIND, LENGTH, DAY}
 use Rattle.citation.specs.Record.{lengthField, kindOf, systemOf, kindLength}
 use Rattle.citation.specs.Record.{yearField, monthField, leapField, dayField, nameField, ordinalField, registerDayField}
-use Rattle.citation.specs.JudgeParts.{Whole, ofAnotherYear, judgeDated}
+use Rattle.citation.specs.JudgeParts.{Whole}
 use Rattle.citation.specs.CitationRefusals.{WrongLength}
 use lib.Dec.{eqb}
 use borrow.Author.Tests.{eq-eqb, ne-eqb, lt-ltb, le-ltb, le-leb, lt-leb}
 use Rattle.reckoning.specs.ComputedRefusals.{outside}
 use Rattle.reckoning.specs.declared.data.Month.{Month}
-use Rattle.reckoning.specs.declared.data.Days.{Days}
+use Rattle.reckoning.specs.declared.data.OrdinalDay.{OrdinalDay}
 use Rattle.reckoning.specs.declared.data.Date.{Date}
-use Rattle.reckoning.specs.Requests.{daysOf, monthOf, dateOf}
+use Rattle.reckoning.specs.Requests.{ordinalDayOf, monthOf, dateOf}
 use Rattle.citation.specs.declared.judge.Judgement.{Judgement}
-use Rattle.citation.specs.Store.{refuseTelling, refuse, accept, unlessRefused, unlessWrong, judgeDate, judgeRegisterDay, judgeInYear}
+use Rattle.citation.specs.Store.{refuseTelling, refuse, accept, unlessRefused, unlessWrong, judgeDate, judgeRegisterDay, judgeOrdinalDay}
 use Rattle.citation.specs.Store.{judgeOrdinal, judgeInMonth, judgeDay, judgeNameInMonth, judgeName, daysToName, nameWrong}
 use Rattle.citation.specs.Store.{lengthRight, judgeKind, judgeOf}
 
@@ -59,43 +58,20 @@ module _ (system r : ℕ) (d : Date) (e : d ≡ dateOf system r) where
   pub date-accepted : d .refusal ≡ 0 → on-date ≡ judgeRegisterDay system r
   date-accepted h = accepted-by (d .refusal) 0 false on-date h ∙ dated
 
--- The same, where a year may be asked for.
-module _ (system r asked : ℕ) (d : Date) (e : d ≡ dateOf system r) where
-  dated-of : unlessRefused (d .refusal) 0 (unlessWrong (ofAnotherYear (d .year) asked) (on-date system r d e)) ≡ judgeDated system r asked
-  unfolding judgeDated
-  dated-of = ap (λ x. unlessRefused (x .refusal) 0 (unlessWrong (ofAnotherYear (x .year) asked) (accept r system (x .year) (x .month) (x .leap) (x .day)))) e
-
-  pub dated-refused : (d .refusal ≡ 0 → ⊥) → refuse (d .refusal) ≡ judgeDated system r asked
-  dated-refused h = refused-by (d .refusal) 0 false (unlessWrong (ofAnotherYear (d .year) asked) (on-date system r d e)) h ∙ dated-of
-
-  pub dated-elsewhere : d .refusal ≡ 0 → ofAnotherYear (d .year) asked ≡ true → refuse DAY ≡ judgeDated system r asked
-  dated-elsewhere h w = wrong-place (d .refusal) 0 (ofAnotherYear (d .year) asked) (on-date system r d e) h w ∙ dated-of
-
-  pub dated-right : d .refusal ≡ 0 → ofAnotherYear (d .year) asked ≡ false → on-date system r d e ≡ judgeDated system r asked
-  dated-right h w = right-place (d .refusal) 0 (ofAnotherYear (d .year) asked) (on-date system r d e) h w ∙ dated-of
-
--- Kind 4 asks for no year.
-pub of-any-year : (system r : ℕ) → judgeDated system r 0 ≡ judgeRegisterDay system r
-unfolding judgeDated judgeRegisterDay
-of-any-year system r = refl
-
--- Kind 3, with the year's days.
-module _ (system year ordinal : ℕ) (y : Days) (e : y ≡ daysOf system year) where
+-- Kind 3, with the day of the year.
+module _ (system year ordinal : ℕ) (d : OrdinalDay) (e : d ≡ ordinalDayOf system year ordinal) where
   abbrev on-ordinal : Judgement
-  on-ordinal = judgeRegisterDay system (y .head .0 + ordinal - 1)
+  on-ordinal = accept (d .day .0) system year (d .month) (d .leap) (d .place)
 
-  in-year : judgeInYear y system ordinal ≡ judgeOrdinal system year ordinal
+  in-year : judgeOrdinalDay d system year ≡ judgeOrdinal system year ordinal
   unfolding judgeOrdinal
-  in-year = ap (λ x. judgeInYear x system ordinal) e
+  in-year = ap (λ x. judgeOrdinalDay x system year) e
 
-  pub year-refused : (y .refusal ≡ 0 → ⊥) → refuse (y .refusal) ≡ judgeOrdinal system year ordinal
-  year-refused h = refused-by (y .refusal) 0 false (unlessWrong (outside 1 (y .length) ordinal) on-ordinal) h ∙ in-year
+  pub ordinal-refused : (d .refusal ≡ 0 → ⊥) → refuse (d .refusal) ≡ judgeOrdinal system year ordinal
+  ordinal-refused h = refused-by (d .refusal) 0 false on-ordinal h ∙ in-year
 
-  pub ordinal-wrong : y .refusal ≡ 0 → outside 1 (y .length) ordinal ≡ true → refuse DAY ≡ judgeOrdinal system year ordinal
-  ordinal-wrong h w = wrong-place (y .refusal) 0 (outside 1 (y .length) ordinal) on-ordinal h w ∙ in-year
-
-  pub ordinal-right : y .refusal ≡ 0 → outside 1 (y .length) ordinal ≡ false → on-ordinal ≡ judgeOrdinal system year ordinal
-  ordinal-right h w = right-place (y .refusal) 0 (outside 1 (y .length) ordinal) on-ordinal h w ∙ in-year
+  pub ordinal-accepted : d .refusal ≡ 0 → on-ordinal ≡ judgeOrdinal system year ordinal
+  ordinal-accepted h = accepted-by (d .refusal) 0 false on-ordinal h ∙ in-year
 
 -- Kind 1, with its month.
 module _ (system year month leap day : ℕ) (m : Month) (e : m ≡ monthOf system year month leap) where

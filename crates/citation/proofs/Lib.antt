@@ -1,8 +1,6 @@
 -- Proofs that serve several functions, and the theorems of the three demands.
 -- The cases of each kind's judgement.
 pub mod JudgementCases
--- An ordinal judged by the date of its day.
-pub mod OrdinalByDate
 -- Ten bytes at the front of an output.
 pub mod TenBytes
 -- The three ways in which a storing ends.

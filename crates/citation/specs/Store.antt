@@ -7,8 +7,8 @@ use lib.ListN.{length, replicate, drop}
 use Rattle.calendar.specs.SixtyDayName.{nameOf}
 use Rattle.reckoning.specs.ComputedRefusals.{outside}
 use Rattle.reckoning.specs.RefusalNumbers.{SHORT, KIND, LENGTH, DAY, OUTPUT}
-use Rattle.reckoning.specs.Requests.{asRegisterDay, daysOf, monthOf, dateOf}
-use Rattle.reckoning.specs.declared.data.Days.{Days}
+use Rattle.reckoning.specs.Requests.{asRegisterDay, ordinalDayOf, monthOf, dateOf}
+use Rattle.reckoning.specs.declared.data.OrdinalDay.{OrdinalDay}
 use Rattle.reckoning.specs.declared.data.Month.{Month}
 use Rattle.reckoning.specs.declared.data.Date.{Date}
 use Rattle.citation.specs.declared.judge.Judgement.{Judgement}
@@ -43,13 +43,12 @@ unfoldable pub judgeRegisterDay : ℕ → ℕ → Judgement
 judgeRegisterDay system r = judgeDate (dateOf system r) system r
 
 -- Kind 3: the day of the year with the ordinal.
-abbrev pub judgeInYear : Days → ℕ → ℕ → Judgement
-judgeInYear y system ordinal =
-    unlessRefused (y .refusal) 0
-    (unlessWrong (outside 1 (y .length) ordinal) (judgeRegisterDay system (y .head .0 + ordinal - 1)))
+abbrev pub judgeOrdinalDay : OrdinalDay → ℕ → ℕ → Judgement
+judgeOrdinalDay d system year =
+    unlessRefused (d .refusal) 0 (accept (d .day .0) system year (d .month) (d .leap) (d .place))
 
 unfoldable pub judgeOrdinal : ℕ → ℕ → ℕ → Judgement
-judgeOrdinal system year ordinal = judgeInYear (daysOf system year) system ordinal
+judgeOrdinal system year ordinal = judgeOrdinalDay (ordinalDayOf system year ordinal) system year
 
 -- Kind 1: the day of the month.
 abbrev pub judgeInMonth : Month → ℕ → ℕ → ℕ → ℕ → ℕ → Judgement

@@ -2,9 +2,10 @@
 ghost use mathlib.Core.Path.{_≡_};
 ghost use Prim.Native.Nat.{_≤_, _<_, _^_};
 ghost use lib.ListN.{length};
-ghost use Rattle.citation.specs.Store.{refuseTelling, refuse, accept, judgeDay, daysToName, judgeName, lengthRight, judgeKind, judgeOf};
-ghost use Rattle.citation.specs.Record.{kindOf, systemOf, kindLength};
-ghost use Rattle.citation.specs.JudgeParts.{Fields, Whole, Found, ofAnotherYear, judgeDated, unnamed, namedByOrdinal, namedDay};
+ghost use Rattle.citation.specs.Store.{refuseTelling, refuse, accept, judgeRegisterDay, judgeOrdinal, judgeDay, daysToName, judgeName};
+ghost use Rattle.citation.specs.Store.{lengthRight, judgeKind, judgeOf};
+ghost use Rattle.citation.specs.Record.{kindOf, kindLength};
+ghost use Rattle.citation.specs.JudgeParts.{Fields, Whole, Found};
 use calendar::data::DayName;
 use calendar::data::Ordinal;
 use calendar::data::RegisterDay;
@@ -67,24 +68,33 @@ fn accept(r: u32, system: u32, year: u32, month: u32, leap: u32, day: u32) -> Ju
     }
 }
 
-// A date's year is not the year asked for; 0 asks for none.
-fn of_another_year(year: u32, asked: u32) -> bool
-    ensures { λ r. ⌜ r ≡ ofAnotherYear year asked ⌝ }
+// Kind 3.
+fn judge_ordinal(system: u32, year: u32, ordinal: Ordinal) -> Judgement
+    requires { ⌜ (system < 256) × (year < 65_536) ⌝ }
+    ensures { λ r. ⌜ r ≡ judgeOrdinal system year (ordinal .0) ⌝ }
 {
-    year != asked && asked != 0
+    let d = reckoning::ordinal_day(system, year, ordinal);
+    if d.refusal != 0 {
+        return refuse(d.refusal);
+    }
+    accept(
+        d.day.0,
+        system,
+        year,
+        d.month as u32,
+        d.leap as u32,
+        d.place as u32,
+    )
 }
 
-// A register day, stored by its date; refused DAY where that is of another year than asked for.
-fn judge_dated(system: u32, day: RegisterDay, asked: u32) -> Judgement
+// Kind 4.
+fn judge_register_day(system: u32, day: RegisterDay) -> Judgement
     requires { ⌜ system < 256 ⌝ }
-    ensures { λ r. ⌜ r ≡ judgeDated system (day .0) asked ⌝ }
+    ensures { λ r. ⌜ r ≡ judgeRegisterDay system (day .0) ⌝ }
 {
     let d = reckoning::date(system, day);
     if d.refusal != 0 {
         return refuse(d.refusal);
-    }
-    if of_another_year(d.year, asked) {
-        return refuse(DAY);
     }
     accept(
         day.0,
@@ -94,58 +104,6 @@ fn judge_dated(system: u32, day: RegisterDay, asked: u32) -> Judgement
         d.leap as u32,
         d.day as u32,
     )
-}
-
-// The day that a citation of kind 3 or 4 names, or why there is none; and the year asked for.
-struct Named {
-    refusal: u8,
-    day: RegisterDay,
-    asked: u32,
-}
-
-fn unnamed(refusal: u8) -> Named
-    ensures { λ r. ⌜ r ≡ unnamed refusal ⌝ }
-{
-    Named {
-        refusal: refusal,
-        day: RegisterDay(0),
-        asked: 0,
-    }
-}
-
-// Kind 3. Past the year's end a day is dated in another year, or not at all. So the year's length is not looked at.
-fn named_by_ordinal(system: u32, year: u32, ordinal: Ordinal) -> Named
-    ensures { λ r. ⌜ r ≡ namedByOrdinal system year (ordinal .0) ⌝ }
-{
-    let head = reckoning::reckoned_head(system, year);
-    if head.refusal != 0 {
-        return unnamed(head.refusal);
-    }
-    if ordinal.0 == 0 {
-        return unnamed(DAY);
-    }
-    let day = head.day.0 + ordinal.0 as u32 - 1;
-    Named {
-        refusal: 0,
-        day: RegisterDay(day),
-        asked: year,
-    }
-}
-
-// Kinds 3 and 4.
-fn named_day(s: &[u8], kind: u32, system: u32) -> Named
-    requires { ⌜ Whole (now s) kind × (system ≡ systemOf (now s)) ⌝ }
-    ensures { λ r. ⌜ r ≡ namedDay (now (s .entry)) ⌝ }
-{
-    if kind == 3 {
-        let year = le16(s[5], s[6]);
-        return named_by_ordinal(system, year, Ordinal(le16(s[7], s[8]) as u16));
-    }
-    Named {
-        refusal: 0,
-        day: RegisterDay(le32(s[5], s[6], s[7], s[8])),
-        asked: 0,
-    }
 }
 
 // Kind 1, in its month.
@@ -186,7 +144,7 @@ fn judge_name(m: Month, system: u32, year: u32, month: u32, leap: u32, name: Day
     accept(m.head.0 + days, system, year, month, leap, days + 1)
 }
 
-// A record whose kind and length are right. A month and a date are each asked for at one place: the compiler copies
+// A record whose kind and length are right. What is asked of the reckoning is each asked at one place: the compiler copies
 // requests of their size only into the one place that calls them.
 fn judge_kind(s: &[u8], kind: u32) -> Judgement
     requires { ⌜ Whole (now s) kind ⌝ }
@@ -204,13 +162,15 @@ fn judge_kind(s: &[u8], kind: u32) -> Judgement
         if kind == 1 {
             return judge_day(m, system, year, month, leap, wide(s[9]));
         }
-        return judge_name(m, system, year, month, leap, DayName(s[9]));
+        let name = s[9];
+        return judge_name(m, system, year, month, leap, DayName(name));
     }
-    let named = named_day(s, kind, system);
-    if named.refusal != 0 {
-        return refuse(named.refusal);
+    if kind == 3 {
+        let year = le16(s[5], s[6]);
+        let ordinal = le16(s[7], s[8]) as u16;
+        return judge_ordinal(system, year, Ordinal(ordinal));
     }
-    judge_dated(system, named.day, named.asked)
+    judge_register_day(system, RegisterDay(le32(s[5], s[6], s[7], s[8])))
 }
 
 // Bytes in a record of a kind.

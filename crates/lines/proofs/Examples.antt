@@ -5,7 +5,7 @@ use mathlib.Core.List.{List, [], _∷_, _++_}
 use Prim.Native.Nat.{ℕ}
 use Rattle.calendar.specs.LeapMonth.{lastLeap}
 use Rattle.reckoning.specs.ComputedRefusals.{yearRefusal}
-use Rattle.reckoning.specs.Requests.{daysOf, monthOf, monthIn, dateOf, dateIn}
+use Rattle.reckoning.specs.Requests.{ordinalDayOf, ordinalDayIn, monthOf, monthIn, dateOf, dateIn}
 use Rattle.citation.specs.Store.{judgeRegisterDay, judgeOrdinal, judgeDay, judgeName, judgeKind, lengthRight, judgeOf}
 use Rattle.text.specs.Decimal.{decimal}
 use Rattle.text.specs.Piece.{word, field, fields, year, month}
@@ -34,7 +34,7 @@ last-line = refused (49 ∷ 10 ∷ [])
 
 pub shown-run : outputOf (case-9 ++ 0x00 ∷ []) ≡ day-line ++ day-line ++ day-line ++ day-line ++ last-line
 unfolding framingWithin linesOf lineOf storedLine year month word field fields decimal
-    judgeOf lengthRight judgeKind judgeDay judgeName judgeOrdinal judgeRegisterDay yearRefusal daysOf monthOf monthIn dateOf dateIn
+    judgeOf lengthRight judgeKind judgeDay judgeName judgeOrdinal judgeRegisterDay yearRefusal ordinalDayOf ordinalDayIn monthOf monthIn dateOf dateIn
 shown-run = refl
 
 -- Leap 5 in Guantian 1094, by date and by name, and in Guantian 1092; month 13 with leap 1; leap byte 2.

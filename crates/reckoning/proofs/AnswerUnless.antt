@@ -40,11 +40,6 @@ module _ {A : Type 0} (answer : Constants → ℕ → A) (blank : ℕ → A) whe
       let a = askedOf (yearRefusal system year) system year in answered a a refl (in-scope system year s)
 
   -- by the constants that the system's number picks
-  pub refused-here : (system year refusal : ℕ) → refusal ≡ yearRefusal system year → (refusal ≡ 0 → ⊥)
-      → blank refusal ≡ answerUnless (yearRefusal system year) system year answer blank
-  refused-here system year refusal e h =
-      refused (askedOf refusal system year) _ (ap (λ r. askedOf r system year) e) h
-
   pub answered-here : (system year : ℕ) (c : Constants) → constantsOf system ≡ c → yearRefusal system year ≡ 0
       → answer c (yearsElapsed c year) ≡ answerUnless (yearRefusal system year) system year answer blank
   answered-here system year c e z =

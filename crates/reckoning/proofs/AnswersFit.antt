@@ -3,18 +3,15 @@ use Prim.Native.Nat.{ℕ, _^_, _≤_, _<_}
 use mathlib.Core.Path.{_≡_, subst, ap, sym}
 use native.Mathlib.Omega.{arith}
 use Rattle.calendar.specs.Systems.{constantsOf, yearsElapsed}
-use Rattle.calendar.specs.Month.{monthHead}
 use Rattle.calendar.proofs.EachSystem.{consistent}
 use Rattle.calendar.proofs.Reckoned.{reckoned}
-use Rattle.calendar.proofs.Spans.{span-first, within}
+use Rattle.calendar.proofs.Spans.{within}
 use Rattle.reckoning.specs.declared.data.Month.{Month}
-use Rattle.reckoning.specs.declared.data.Days.{Days}
 use Rattle.reckoning.specs.declared.data.Date.{Date}
-use Rattle.reckoning.specs.Requests.{daysOf, monthOf, dateOf}
-use Rattle.reckoning.specs.Outcomes.{DaysOutcome, MonthOutcome, DateOutcome}
+use Rattle.reckoning.specs.Requests.{monthOf, dateOf}
+use Rattle.reckoning.specs.Outcomes.{MonthOutcome, DateOutcome}
 use Rattle.reckoning.proofs.ScopeInRegister.{year-in-register}
-use Rattle.reckoning.proofs.RegisterLaws.{first-head}
-use Rattle.reckoning.proofs.RequestsEnd.{days-outcome, month-outcome, date-outcome}
+use Rattle.reckoning.proofs.RequestsEnd.{month-outcome, date-outcome}
 
 pub record MonthFits (v : Month) : Type 0 where
   pub head-small : v .head .0 < 2 ^ 31
@@ -35,18 +32,6 @@ month-fits system year number leap v e z = go (subst (MonthOutcome system year n
           head-small = omega (arith, (year-in-register system year (m .in-scope .year-inside)) .head (m .k) (w .0) (omega arith));
           length-most = omega (arith, (reckoned c (consistent system)) .month-most (m .k));
         }
-
-pub days-fit : (system year : ℕ) (v : Days) → v ≡ daysOf system year → v .refusal ≡ 0 → v .head .0 < 2 ^ 31
-days-fit system year v e z = go (subst (DaysOutcome system year) (sym e) (days-outcome system year))
-  where
-    go : DaysOutcome system year v → v .head .0 < 2 ^ 31
-    go (DaysOutcome.system-refused w f) = absurd (omega (arith, ap (λ m. m .refusal) f))
-    go (DaysOutcome.year-refused i w f) = absurd (omega (arith, ap (λ m. m .refusal) f))
-    go (DaysOutcome.found y) =
-        let c = constantsOf system in
-        let n = yearsElapsed c year in
-        let head = first-head c n (year-in-register system year (y .in-scope .year-inside)) in
-        omega (arith, head, ap (monthHead c) (span-first c (consistent system) (y .span)))
 
 -- A date's year fits two bytes.
 pub date-fits : (system r : ℕ) {v : Date} → v ≡ dateOf system r → v .refusal ≡ 0 → v .year < 2 ^ 16

@@ -6,7 +6,7 @@ use native.Mathlib.Omega.{arith}
 use lib.ListN.{getD-replicate}
 use Rattle.calendar.specs.declared.data.Constants.{Constants}
 use Rattle.calendar.specs.Systems.{constantsOf, yearsElapsed, registerDay}
-use Rattle.calendar.specs.Steps.{moment, dayOf, partsOf, unitsOf}
+use Rattle.calendar.specs.Steps.{moment, dayOf}
 use Rattle.calendar.specs.ClosedForms.{headOfYear}
 use Rattle.calendar.proofs.EachSystem.{consistent}
 use Rattle.calendar.proofs.Spans.{span}

@@ -1,10 +1,7 @@
 -- The date of a register day: its numbers fit, and its year tells whether it is in scope.
-use Prim.Native.Nat.{ℕ, _+_, _-_, _/_, _%_, _≤_}
+use Prim.Native.Nat.{ℕ, _+_, _-_, _/_, _%_}
 use mathlib.Core.Path.{_≡_, sym, ap, _∙_}
 use mathlib.Core.Bool.{Bool, true, false}
-use native.Mathlib.Omega.{arith}
-use mir.Syntax.{w8}
-use mir.Val.{Fits}
 use Rattle.calendar.specs.declared.data.Constants.{Constants}
 use Rattle.calendar.specs.Systems.{countDay, beforeEpoch}
 use Rattle.calendar.specs.Month.{monthHead, numberOf}
@@ -45,16 +42,8 @@ module _ {c : Constants} (fit : ConstantsFit c) (r : ℕ) {early : Bool} (tested
     abbrev k : ℕ
     k = monthOfDay c d
 
-    -- the day's place in its month
     head-is : m .head ≡ monthHead c k
     head-is = ap (λ x. x .head) month
-
-    pub place-from : m .head ≤ d
-    place-from = omega (arith, head-is, K .day-from d)
-
-    pub place-fits : Fits w8 (d - m .head + 1)
-    place-fits =
-        omega (arith, head-is, K .day-before d, K .month-most k)
 
     last-is : last ≡ lastQi c k
     last-is = qi ∙ ap (λ x. lastQi c (x .month)) month

@@ -3,7 +3,6 @@ use Prim.Native.Nat.{ℕ, _+_, _-_, _≤_}
 use mathlib.Core.Path.{_≡_, sym, ap, ap₂, subst, subst₂, _∙_}
 use mathlib.Core.Bool.{false}
 use native.Mathlib.Omega.{arith}
-use lib.Dec.{eqb}
 use borrow.Author.Tests.{le-ltb}
 use Rattle.calendar.specs.declared.data.Constants.{Constants}
 use Rattle.calendar.specs.declared.data.RegisterDay.{RegisterDay}
@@ -12,14 +11,12 @@ use Rattle.calendar.specs.Month.{monthHead}
 use Rattle.calendar.specs.Consistent.{Consistent}
 use Rattle.calendar.specs.ClosedForms.{monthOfDay, firstMonth, headOfYear, registerHead}
 use Rattle.calendar.proofs.EachSystem.{one-a-year}
-use Rattle.calendar.proofs.Cases.{by-bool}
 use Rattle.calendar.proofs.Reckoned.{reckoned}
 use Rattle.calendar.proofs.EveryCalendar.{month-unique, count-least}
 use Rattle.reckoning.specs.declared.month_spans.MonthSpan.{MonthSpan}
 use Rattle.reckoning.specs.MonthSpans.{monthSpan}
 use Rattle.reckoning.specs.WordBounds.{HeadInRegister, YearInRegister, MonthsInRegister}
-use Rattle.reckoning.specs.Requests.{asRegisterDay, daysIn, daysOf, yearHeadOf, headAt, monthsFrom, yearIn}
-use Rattle.reckoning.specs.ComputedRefusals.{yearRefusal}
+use Rattle.reckoning.specs.Requests.{asRegisterDay, daysIn, headAt, monthsFrom, yearIn}
 use Rattle.reckoning.proofs.RegisterLaws.{months-in-register, first-head, next-head, register-rises, register-length-most}
 
 -- A year begins with the month of its head.
@@ -102,10 +99,3 @@ module _ {c : Constants} (year : ℕ) (y : YearInRegister c (yearsElapsed c year
 
   pub told-of-next : {A : Type 0} (f : ℕ → A) {v : A} → v ≡ f (yearsElapsed c (year + 1)) → v ≡ f (yearsElapsed c year + 1)
   told-of-next f e = e ∙ ap f one-more
-
--- The head that is answered is that of the days answered.
-pub head-of-days : (system year : ℕ)
-    → yearHeadOf system year ≡ record { refusal = daysOf system year .refusal; day = daysOf system year .head }
-unfolding yearHeadOf daysOf
-head-of-days system year =
-    by-bool (eqb (yearRefusal system year) 0) (λ accepted. simp accepted) (λ refused. simp refused)

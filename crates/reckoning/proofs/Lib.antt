@@ -23,6 +23,8 @@ pub mod MonthRequest
 pub mod LeapMonthSearch
 -- The common year of a day, and whether the day is in scope.
 pub mod YearOfDay
+-- The day of a year by its ordinal.
+pub mod OrdinalRequest
 -- The date of a register day.
 pub mod DateRequest
 -- The pentad in force on a register day.

@@ -56,6 +56,19 @@ module _ {c : Constants} (fit : ConstantsFit c) (d : ℕ) where
       let next = sym (days-after c (fit .consistent) d) in
       λ j. record { month = monthOfDay c d; head = head j; next = next j }
 
+  -- the day's place in it
+  module _ {m : MonthSpan} (month : m ≡ monthSpan c (monthOfDay c d)) where
+    day-head-is : m .head ≡ monthHead c (monthOfDay c d)
+    day-head-is = ap (λ x. x .head) month
+
+    pub place-from : m .head ≤ d
+    place-from = omega (arith, day-head-is, reckoned c (fit .consistent) .day-from d)
+
+    pub place-fits : Fits w8 (d - m .head + 1)
+    place-fits =
+        let K = reckoned c (fit .consistent) in
+        omega (arith, day-head-is, K .day-before d, K .month-most (monthOfDay c d))
+
   -- it fits where the day does
   pub day-span-fits : {m : MonthSpan} → d < 2 ^ 36 → m ≡ monthSpan c (monthOfDay c d) → SpanFits c m
   day-span-fits h e =

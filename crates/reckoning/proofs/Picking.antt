@@ -28,6 +28,9 @@ module _ (k : ℕ) {c : Constants} (is : c ≡ constantsOf k) where
   pub picked : {A : Type 0} (f : Constants → A) (system : ℕ) {v : A} → system ≡ k → v ≡ f c → v ≡ f (constantsOf system)
   picked f system e given = given ∙ ap f (is ∙ ap constantsOf (sym e))
 
+  pub picked-back : {A : Type 0} (f : Constants → A) (system : ℕ) {v : A} → system ≡ k → v ≡ f (constantsOf system) → v ≡ f c
+  picked-back f system e given = given ∙ sym (ap f (is ∙ ap constantsOf (sym e)))
+
 -- A request by system: answered by the constants of its number, or refused.
 module _ {A : Type 0} (answer : Constants → A) (blank : ℕ → A) (system : ℕ) {v : A} where
   pub by-number : (k : ℕ) → noSuchSystem k ≡ false → system ≡ k → {c : Constants} → c ≡ constantsOf k → v ≡ answer c

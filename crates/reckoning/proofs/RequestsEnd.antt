@@ -1,5 +1,5 @@
--- How the requests for a year's days, for one month and for a date end, in the paper's words.
-use Prim.Native.Nat.{ℕ, _+_, _-_, _≤_, _<_}
+-- How the requests for a year's days, for one of them, for one month and for a date end, in the paper's words.
+use Prim.Native.Nat.{ℕ, _+_, _-_, _<_}
 use mathlib.Core.Path.{_≡_, refl, subst, sym, ap, _∙_}
 use mathlib.Core.Bool.{true, false, true≢false}
 use mathlib.Core.Logic.{inl, inr, ⊎-elim}
@@ -8,12 +8,12 @@ use Rattle.calendar.specs.Inside.{Inside}
 use Rattle.calendar.specs.Systems.{lastSystem, constantsOf, yearsElapsed, IsRegisterDay, countDay}
 use Rattle.calendar.specs.Month.{monthHead}
 use Rattle.calendar.specs.Year.{DayOfYear, MonthNumbered, HasLeap}
-use Rattle.calendar.specs.ClosedForms.{monthOfDay, yearOfMonth, headOfYear, monthNumber, leapMark, monthCited, leapFollows}
+use Rattle.calendar.specs.ClosedForms.{monthOfDay, firstMonth, yearOfMonth, headOfYear, monthNumber, leapMark, monthCited, leapFollows}
 use Rattle.calendar.specs.LeapMonth.{leapNumber}
 use Rattle.calendar.proofs.EachSystem.{consistent}
 use Rattle.calendar.proofs.Cases.{by-bool}
 use Rattle.calendar.proofs.Rising.{by-order}
-use Rattle.calendar.proofs.Reckoned.{reckoned}
+use Rattle.calendar.proofs.Reckoned.{reckoned, month-from, month-before}
 use Rattle.calendar.proofs.Spans.{span, span-first, span-next, in-year, within}
 use Rattle.calendar.proofs.EveryCalendar.{in-its-year, years-rise, year-from, year-before}
 use Rattle.calendar.proofs.LeapMonths.{leap-number}
@@ -21,7 +21,7 @@ use Rattle.calendar.proofs.Laws.{numbered, leap-follows, ordinary-cited, leap-c
 use Rattle.reckoning.specs.Scope.{SystemInScope, InScope, DayInScope}
 use Rattle.reckoning.specs.CommonYears.{commonYear}
 use Rattle.reckoning.specs.ComputedRefusals.{yearRefusal, dayWrong}
-use Rattle.reckoning.specs.Requests.{daysIn, noDays, daysOf, monthAt, noMonth, monthTelling, monthOf, dateAt, dateIn, dateOf}
+use Rattle.reckoning.specs.Requests.{daysIn, noDays, daysOf, ordinalDayAt, noOrdinalDay, ordinalDayIn, ordinalDayOf, monthAt, noMonth, monthTelling, monthOf, dateAt, dateIn, dateOf}
 use Rattle.reckoning.specs.Outcomes as O
 use Rattle.reckoning.specs.RefusalNumbers.{SYSTEM, YEAR}
 use Rattle.reckoning.proofs.RefusalCases.{by-inside, by-scope}
@@ -46,6 +46,49 @@ days-outcome system year =
     subst (O.DaysOutcome system year) (answered-year daysIn noDays system year s)
     (O.DaysOutcome.found
     (record { in-scope = s; span = span c (consistent system) n; not-refused = refl; head-is = omega arith; length-is = omega arith })))
+
+-- A day of a year in scope, by its ordinal.
+found-day : (system year ordinal : ℕ) → InScope system year
+    → Inside 1 (headOfYear (constantsOf system) (yearsElapsed (constantsOf system) year + 1) - headOfYear (constantsOf system) (yearsElapsed (constantsOf system) year)) ordinal
+    → O.OrdinalOutcome system year ordinal
+    (ordinalDayAt (constantsOf system) (headOfYear (constantsOf system) (yearsElapsed (constantsOf system) year) + ordinal - 1))
+found-day system year ordinal s i =
+    let c = constantsOf system in
+    let ok = consistent system in
+    let K = reckoned c ok in
+    let n = yearsElapsed c year in
+    let r = year-in-register system year (s .year-inside) in
+    let d = headOfYear c n + ordinal - 1 in
+    let k = monthOfDay c d in
+    let from = month-from c ok (firstMonth c n) d (omega (arith, i)) in
+    let before = month-before c ok (firstMonth c (n + 1)) d (omega (arith, i)) in
+    O.OrdinalOutcome.found
+    (record {
+      in-scope = s;
+      span = span c ok n;
+      inside = i;
+      k = k;
+      numbered = numbered c ok n k (in-year c ok n k (from, before));
+      not-refused = refl;
+      is-day = omega (arith, i, first-head c n r);
+      in-month = (K .day-from d, K .day-before d);
+      place-is = refl;
+    })
+
+pub ordinal-outcome : (system year ordinal : ℕ) → O.OrdinalOutcome system year ordinal (ordinalDayOf system year ordinal)
+unfolding ordinalDayOf ordinalDayIn
+ordinal-outcome system year ordinal =
+    let answer = ordinalDayIn ordinal in
+    by-scope system year
+    (λ no-system e. O.OrdinalOutcome.system-refused no-system (refused-year answer noOrdinalDay system year SYSTEM e (omega arith)))
+    (λ s no-year e. O.OrdinalOutcome.year-refused s no-year (refused-year answer noOrdinalDay system year YEAR e (omega arith)))
+    (λ s.
+    let c = constantsOf system in
+    let n = yearsElapsed c year in
+    subst (O.OrdinalOutcome system year ordinal) (answered-year answer noOrdinalDay system year s)
+    (by-inside 1 (headOfYear c (n + 1) - headOfYear c n) ordinal
+    (λ e out. O.OrdinalOutcome.day-refused s (span c (consistent system) n) out (simp e))
+    (λ e into. subst (O.OrdinalOutcome system year ordinal) (simp e) (found-day system year ordinal s into))))
 
 -- A month of a year in scope, answered.
 found-month : (system year number leap k : ℕ) → InScope system year → Inside 1 12 number → Inside 0 1 leap

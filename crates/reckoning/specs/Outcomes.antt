@@ -1,18 +1,20 @@
--- How a request for a year's days, for one month, for a date or for the pentad in force can end, in the paper's words.
+-- How a request for a year's days, for one of them by its ordinal, for one month, for a date or for the pentad in force
+-- can end, in the paper's words.
 use Prim.Native.Nat.{ℕ, _+_, _-_}
 use mathlib.Core.Path.{_≡_}
 use Rattle.calendar.specs.Inside.{Inside}
 use Rattle.calendar.specs.Systems.{constantsOf, yearsElapsed, IsRegisterDay}
 use Rattle.calendar.specs.Pentad.{InForce, InSolarYear}
 use Rattle.calendar.specs.Month.{monthHead, InMonth, monthLength}
-use Rattle.calendar.specs.Year.{Span, yearHead, yearLength, MonthNumbered, LeapNumber}
+use Rattle.calendar.specs.Year.{Span, yearHead, yearLength, dayOfOrdinal, MonthNumbered, LeapNumber}
 use Rattle.reckoning.specs.declared.data.Days.{Days}
 use Rattle.reckoning.specs.declared.data.Month.{Month}
+use Rattle.reckoning.specs.declared.data.OrdinalDay.{OrdinalDay}
 use Rattle.reckoning.specs.declared.data.Date.{Date}
 use Rattle.reckoning.specs.declared.data.PentadInForce.{PentadInForce}
 use Rattle.reckoning.specs.Scope.{SystemInScope, YearInScope, InScope, NoSuchMonth, NotLeap, DayInScope, SolarDayInScope}
 use Rattle.reckoning.specs.RefusalNumbers.{SYSTEM, YEAR, MONTH, DAY, LEAP}
-use Rattle.reckoning.specs.Requests.{noDays, noMonth, noMonthTelling, noDate, noneInForce}
+use Rattle.reckoning.specs.Requests.{noDays, noOrdinalDay, noMonth, noMonthTelling, noDate, noneInForce}
 
 -- The days of a year, answered: its head and its length.
 pub record DaysFound (system year : ℕ) (v : Days) : Type 0 where
@@ -27,6 +29,29 @@ pub data DaysOutcome (system year : ℕ) (v : Days) : Type 0 where
   system-refused : (SystemInScope system → ⊥) → v ≡ noDays SYSTEM → DaysOutcome system year v
   year-refused : SystemInScope system → (YearInScope year → ⊥) → v ≡ noDays YEAR → DaysOutcome system year v
   found : DaysFound system year v → DaysOutcome system year v
+
+-- A day of a year by its ordinal, answered: the day, its month by number and leap mark, and its place there.
+pub record OrdinalFound (system year ordinal : ℕ) (v : OrdinalDay) : Type 0 where
+  pub in-scope : InScope system year
+  pub span : Span (constantsOf system) (yearsElapsed (constantsOf system) year)
+  pub inside : Inside 1 (yearLength span) ordinal
+  pub k : ℕ
+  pub numbered : MonthNumbered (constantsOf system) (yearsElapsed (constantsOf system) year) (v .month) (v .leap) k
+  pub not-refused : v .refusal ≡ 0
+  pub is-day : IsRegisterDay (constantsOf system) (v .day .0) (dayOfOrdinal span ordinal)
+  pub in-month : InMonth (constantsOf system) k (dayOfOrdinal span ordinal)
+  pub place-is : v .place ≡ dayOfOrdinal span ordinal - monthHead (constantsOf system) k + 1
+
+-- Refused SYSTEM, then YEAR, then DAY where the year has no such day; or answered.
+pub data OrdinalOutcome (system year ordinal : ℕ) (v : OrdinalDay) : Type 0 where
+  system-refused : (SystemInScope system → ⊥) → v ≡ noOrdinalDay SYSTEM → OrdinalOutcome system year ordinal v
+  year-refused : SystemInScope system → (YearInScope year → ⊥) → v ≡ noOrdinalDay YEAR → OrdinalOutcome system year ordinal v
+  day-refused : InScope system year
+      → (span : Span (constantsOf system) (yearsElapsed (constantsOf system) year))
+      → (Inside 1 (yearLength span) ordinal → ⊥)
+      → v ≡ noOrdinalDay DAY
+      → OrdinalOutcome system year ordinal v
+  found : OrdinalFound system year ordinal v → OrdinalOutcome system year ordinal v
 
 -- One month, answered: its head and its length.
 pub record MonthFound (system year number leap : ℕ) (v : Month) : Type 0 where

@@ -21,8 +21,9 @@ use Rattle.reckoning.specs.declared.data.Sheet.{Sheet}
 use Rattle.reckoning.specs.declared.data.Month.{Month}
 use Rattle.reckoning.specs.declared.data.YearHead.{YearHead}
 use Rattle.reckoning.specs.declared.data.Days.{Days}
+use Rattle.reckoning.specs.declared.data.OrdinalDay.{OrdinalDay}
 use Rattle.reckoning.specs.declared.data.Date.{Date}
-use Rattle.reckoning.specs.ComputedRefusals.{noSuchSystem, outOfYears, yearRefusal, stepRefusal}
+use Rattle.reckoning.specs.ComputedRefusals.{outside, noSuchSystem, outOfYears, yearRefusal, stepRefusal}
 use Rattle.reckoning.specs.ComputedRefusals.{monthWrong, leapWrong, dayWrong, solarDayWrong}
 use Rattle.reckoning.specs.RefusalNumbers.{SYSTEM, YEAR, MONTH, DAY, LEAP}
 use Rattle.reckoning.specs.Asked.{askedOf}
@@ -162,6 +163,31 @@ noYearHead refusal = record { refusal = refusal; day = asRegisterDay 0 }
 
 unfoldable pub yearHeadOf : ℕ → ℕ → YearHead
 yearHeadOf system year = answerUnless (yearRefusal system year) system year yearHeadIn noYearHead
+
+-- The day of year n with an ordinal, from 1: its register day, its month's number and leap mark, and its place in the
+-- month; DAY where the year has no such day. Refused: zeros.
+abbrev pub ordinalDayAt : Constants → ℕ → OrdinalDay
+ordinalDayAt c d =
+    let k = monthOfDay c d in
+    record {
+      refusal = 0;
+      day = asRegisterDay (registerDay c d);
+      month = monthNumber c k;
+      leap = leapMark c k;
+      place = d - monthHead c k + 1;
+    }
+
+abbrev pub noOrdinalDay : ℕ → OrdinalDay
+noOrdinalDay refusal = record { refusal = refusal; day = asRegisterDay 0; month = 0; leap = 0; place = 0 }
+
+unfoldable pub ordinalDayIn : ℕ → Constants → ℕ → OrdinalDay
+ordinalDayIn ordinal c n =
+    cond (outside 1 (headOfYear c (n + 1) - headOfYear c n) ordinal)
+    (noOrdinalDay DAY)
+    (ordinalDayAt c (headOfYear c n + ordinal - 1))
+
+unfoldable pub ordinalDayOf : ℕ → ℕ → ℕ → OrdinalDay
+ordinalDayOf system year ordinal = answerUnless (yearRefusal system year) system year (ordinalDayIn ordinal) noOrdinalDay
 
 -- The month of year n with a number and a leap mark; MONTH where the number is not 1 to 12 or the mark not 0 or 1, and
 -- then LEAP where that month is not leap. Refused: zeros, and with LEAP the number of the year's leap month.

@@ -96,9 +96,17 @@ pub(crate) fn common_year(c: Constants, n: u64) -> u32
     (n + c.common - c.elapsed) as u32
 }
 
-// The number that middle qi g gives its month.
+// The number that middle qi j of a year gives its month.
+pub(crate) fn number_of(j: u64) -> u8
+    requires { ⌜ j < 12 ⌝ }
+    ensures { λ r. ⌜ r ≡ numberOf j ⌝ }
+{
+    ((j + 10) % 12 + 1) as u8
+}
+
+// The number that middle qi g, counted on from the epoch, gives its month.
 pub(crate) fn number_of_qi(g: u64) -> u8
     ensures { λ r. ⌜ r ≡ numberOf (g % 12) ⌝ }
 {
-    ((g % 12 + 10) % 12 + 1) as u8
+    number_of(g % 12)
 }

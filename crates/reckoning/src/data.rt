@@ -62,6 +62,15 @@ pub struct Days {
     pub length: u16,
 }
 
+// A day of a year by its ordinal: the day, its month's number and leap mark, and its place in the month.
+pub struct OrdinalDay {
+    pub refusal: u8,
+    pub day: RegisterDay,
+    pub month: u8,
+    pub leap: u8,
+    pub place: u8,
+}
+
 // A day by year, month number, leap mark and day of the month. The year has 32 bits, since a struct of eight bytes is
 // packed into one word and taken apart again.
 pub struct Date {

@@ -4,14 +4,17 @@
 // System, year, qi and pentad number come as 32 bits, so that no number is cut before it can be refused. A refused
 // request gives a blank answer that carries the refusal number, and with LEAP the number of the year's leap month.
 ghost use mathlib.Core.Path.{_≡_};
+ghost use Prim.Native.Nat.{_<_};
 ghost use Rattle.calendar.specs.Systems.{constantsOf, yearsElapsed};
 ghost use Rattle.calendar.specs.SixtyDayName.{nameOf};
+ghost use Rattle.calendar.specs.ClosedForms.{registerHead};
 ghost use Rattle.calendar.specs.LeapMonth.{leapNumber};
 ghost use Rattle.reckoning.specs.Scope.{InScope};
 ghost use Rattle.reckoning.specs.ComputedRefusals.{yearRefusal};
 ghost use Rattle.reckoning.specs.Requests.{solsticeOf, qiOf, pentadOf, yearOf, sheetOf, daysOf, yearHeadOf};
-ghost use Rattle.reckoning.specs.Requests.{answerUnless, noMonth, monthSilent, monthOf, dateOf, pentadInForce};
+ghost use Rattle.reckoning.specs.Requests.{answerUnless, noMonth, monthSilent, monthOf, ordinalDayIn, ordinalDayOf, dateOf, pentadInForce};
 use calendar::data::DayName;
+use calendar::data::Ordinal;
 use calendar::data::RegisterDay;
 use calendar::systems::guantian;
 use calendar::systems::jingchu;
@@ -20,11 +23,13 @@ use data::Date;
 use data::Days;
 use data::Moment;
 use data::Month;
+use data::OrdinalDay;
 use data::PentadInForce;
 use data::Sheet;
 use data::Solstice;
 use data::Year;
 use data::YearHead;
+use refusal_numbers::DAY;
 use refusal_numbers::LEAP;
 use refusal_numbers::SYSTEM;
 
@@ -36,6 +41,7 @@ mod leap_months;
 mod month_spans;
 mod months;
 mod names;
+mod ordinals;
 mod pentads;
 pub mod refusal;
 pub mod refusal_numbers;
@@ -170,6 +176,35 @@ pub fn month(system: u32, year: u32, number: u32, leap: u32) -> Month
         return months::none_telling(LEAP, leap_month(system, year));
     }
     month
+}
+
+// The day of a year with an ordinal, counted from the year's head.
+fn day_counted(system: u32, year: u32, head: RegisterDay, ordinal: Ordinal) -> OrdinalDay
+    requires { ⌜ InScope system year
+        × (head ≡ registerHead (constantsOf system) (yearsElapsed (constantsOf system) year))
+        × (0 < ordinal .0) ⌝ }
+    ensures { λ r. ⌜ r ≡ ordinalDayIn (ordinal .0) (constantsOf system) (yearsElapsed (constantsOf system) year) ⌝ }
+{
+    match system {
+        2 => ordinals::counted(jiyuan(), year, head, ordinal),
+        3 => ordinals::counted(jingchu(), year, head, ordinal),
+        _ => ordinals::counted(guantian(), year, head, ordinal),
+    }
+}
+
+// The day of a year with an ordinal; refused DAY where the year has no such day. Head and day are found one after the
+// other: both together would be too long for the compiler to copy them to each system's constants.
+pub fn ordinal_day(system: u32, year: u32, ordinal: Ordinal) -> OrdinalDay
+    ensures { λ r. ⌜ r ≡ ordinalDayOf system year (ordinal .0) ⌝ }
+{
+    let head = reckoned_head(system, year);
+    if head.refusal != 0 {
+        return ordinals::none(head.refusal);
+    }
+    if ordinal.0 == 0 {
+        return ordinals::none(DAY);
+    }
+    day_counted(system, year, head.day, ordinal)
 }
 
 // The date of a register day; refused DAY outside years 1 to 3000.

@@ -4,8 +4,7 @@ use mathlib.Core.List.{List}
 use native.Mathlib.Omega.{arith}
 use Rattle.citation.specs.Record.{systemOf, yearField, monthField, leapField}
 use Rattle.citation.specs.JudgeParts.{Whole}
-use Rattle.citation.proofs.JudgementCases.{kind-one-or-two, kind-one, kind-two}
-use Rattle.citation.proofs.OrdinalByDate.{named-refused, named-accepted}
+use Rattle.citation.proofs.JudgementCases.{kind-one-or-two, kind-one, kind-two, kind-three, kind-four}
 use borrow.Author.Needs.{needs}
 use Rattle.citation.proofs.judge.judge_kind.Statement.{statement}
 use Rattle.citation.proofs.judge.judge_kind.Tie as tie
@@ -102,8 +101,8 @@ returns-2 c =
     (fields .3)
     (omega arith)
 
-shared-slice-read-t13 : tie.Need-shared-slice-read-t13
-shared-slice-read-t13 c = search needs
+shared-slice-read-name : tie.Need-shared-slice-read-name
+shared-slice-read-name c = search needs
 
 judge-name-requires : tie.Need-judge-name-requires
 judge-name-requires c κs = search needs
@@ -119,22 +118,53 @@ returns-3 c =
     (fields .3)
     refl
 
-named-day-requires : tie.Need-named-day-requires
-named-day-requires c κs = search needs
+shared-slice-read-le16-3 : tie.Need-shared-slice-read-le16-3
+shared-slice-read-le16-3 c = search needs
 
-refuse-requires : tie.Need-refuse-requires
-refuse-requires c κs = search needs
+shared-slice-read-le16-4 : tie.Need-shared-slice-read-le16-4
+shared-slice-read-le16-4 c = search needs
+
+le16-requires-2 : tie.Need-le16-requires-2
+le16-requires-2 c κs = search needs
+
+shared-slice-read-le16-5 : tie.Need-shared-slice-read-le16-5
+shared-slice-read-le16-5 c = search needs
+
+shared-slice-read-le16-6 : tie.Need-shared-slice-read-le16-6
+shared-slice-read-le16-6 c = search needs
+
+le16-requires-3 : tie.Need-le16-requires-3
+le16-requires-3 c κs = search needs
+
+cast-ordinal : tie.Need-cast-ordinal
+cast-ordinal c = search needs
+
+judge-ordinal-requires : tie.Need-judge-ordinal-requires
+judge-ordinal-requires c κs = search needs
 
 returns-4 : tie.Need-returns-4
-returns-4 c =
-    named-refused _ (omega arith) (c .before .before .before .named-day .ensures) (c .before .if4 .taken) (c .refuse .ensures)
+returns-4 c = kind-three _ (omega arith) (omega arith) (c .judge-ordinal .ensures) (omega arith) (omega arith)
 
-judge-dated-requires : tie.Need-judge-dated-requires
-judge-dated-requires c κs = search needs
+shared-slice-read-le32 : tie.Need-shared-slice-read-le32
+shared-slice-read-le32 c = search needs
+
+shared-slice-read-le32-2 : tie.Need-shared-slice-read-le32-2
+shared-slice-read-le32-2 c = search needs
+
+shared-slice-read-le32-3 : tie.Need-shared-slice-read-le32-3
+shared-slice-read-le32-3 c = search needs
+
+shared-slice-read-le32-4 : tie.Need-shared-slice-read-le32-4
+shared-slice-read-le32-4 c = search needs
+
+le32-requires : tie.Need-le32-requires
+le32-requires c κs = search needs
+
+judge-register-day-requires : tie.Need-judge-register-day-requires
+judge-register-day-requires c κs = search needs
 
 returns-5 : tie.Need-returns-5
-returns-5 c =
-    named-accepted _ (omega arith) (c .before .before .before .named-day .ensures) (omega arith) (c .before .if4 .left) (c .judge-dated .ensures)
+returns-5 c = kind-four _ (omega arith) (omega arith) (c .judge-register-day .ensures) (omega arith)
 
 pub judge-kind-spec : {M : Type 1} → statement M
 judge-kind-spec =
@@ -156,11 +186,22 @@ judge-kind-spec =
     wide-requires-4
     judge-day-requires
     returns-2
-    shared-slice-read-t13
+    shared-slice-read-name
     judge-name-requires
     returns-3
-    named-day-requires
-    refuse-requires
+    shared-slice-read-le16-3
+    shared-slice-read-le16-4
+    le16-requires-2
+    shared-slice-read-le16-5
+    shared-slice-read-le16-6
+    le16-requires-3
+    cast-ordinal
+    judge-ordinal-requires
     returns-4
-    judge-dated-requires
+    shared-slice-read-le32
+    shared-slice-read-le32-2
+    shared-slice-read-le32-3
+    shared-slice-read-le32-4
+    le32-requires
+    judge-register-day-requires
     returns-5)

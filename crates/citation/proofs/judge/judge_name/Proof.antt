@@ -1,4 +1,4 @@
-use mathlib.Core.Path.{_≡_, _∙_}
+use mathlib.Core.Path.{_∙_}
 use native.Mathlib.Omega.{arith}
 use Rattle.reckoning.proofs.AnswersFit.{MonthFits, month-fits}
 use Rattle.citation.proofs.JudgementCases.{no-name, name-past, name-right-after}

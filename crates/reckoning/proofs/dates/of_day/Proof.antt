@@ -1,7 +1,7 @@
 use native.Mathlib.Omega.{arith}
-use Rattle.reckoning.proofs.MonthSpanLaws.{day-span-fits}
+use Rattle.reckoning.proofs.MonthSpanLaws.{place-from, place-fits, day-span-fits}
 use Rattle.reckoning.proofs.YearOfDay.{tested-in-scope, tested-from-epoch}
-use Rattle.reckoning.proofs.DateRequest.{date-before, place-from, place-fits, date-outside, date-inside}
+use Rattle.reckoning.proofs.DateRequest.{date-before, date-outside, date-inside}
 use borrow.Author.Needs.{needs}
 use Rattle.reckoning.proofs.dates.of_day.Statement.{statement}
 use Rattle.reckoning.proofs.dates.of_day.Tie as tie

@@ -1,5 +1,4 @@
 use Prim.Native.Nat.{_-_}
-use native.Mathlib.Omega.{arith}
 use Rattle.calendar.specs.LeapMonth.{LeapBetween}
 use Rattle.calendar.proofs.LeapMonths.{between-from-first}
 use Rattle.reckoning.proofs.LeapMonthSearch.{from-first, beside}
