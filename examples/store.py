@@ -4,9 +4,10 @@
     store.py SYSTEM YEAR MONTH LEAP DAY
     store.py 1 1094 5 0 1
 
-The loader has to find libchiselbrow.so.1: where it is not installed,
-LD_LIBRARY_PATH says where it is. Printed is what store prints; so is the exit
-status. chiselbrow.h is the manual.
+The system is 1 for Guantian, 2 for Jiyuan or 3 for Jingchu. The loader has to
+find libchiselbrow.so.1: where it is not installed, LD_LIBRARY_PATH says where
+it is. Printed is what store prints; so is the exit status. chiselbrow.h is the
+manual.
 """
 
 import ctypes

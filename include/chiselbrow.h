@@ -1,4 +1,4 @@
-/* Chiselbrow: one stored record for every day of two Song calendars.
+/* Chiselbrow: one stored record for every day of three Chinese calendars.
  *
  * Inscriptions and papers cite a day in several ways: by its date, by its
  * name in the round of sixty, by its place in the year, or by a day number
@@ -44,8 +44,9 @@
  *
  * WORDS
  *
- * system        Which calendar reckons: 1 is Guantian, 2 is Jiyuan. The same
- *               date can fall on different days in the two.
+ * system        Which calendar reckons: 1 is Guantian, 2 is Jiyuan, 3 is
+ *               Jingchu. The same date can fall on different days in two of
+ *               them.
  *
  * year          Numbered 1 to 3000 like the common years. It opens with month
  *               11, which has the day of the winter solstice, and so begins
@@ -68,11 +69,11 @@
  * register day  The day's own number: its Julian Day Number, taken for the
  *               civil day from midnight to midnight. With the system it
  *               identifies a day. Years 1 to 3000 have the register days
- *               1721407 to 2817138 in both systems.
+ *               1721407 to 2817138 in all three systems.
  *
  * name          The sixty-day name: a day's place in the round of sixty day
  *               names, 0 for jiazi to 59 for guihai. It is (register day +
- *               49) % 60 in either system, and comes back every sixty days.
+ *               49) % 60 in every system, and comes back every sixty days.
  *               It is a label, and never enough to tell one day from another.
  *
  * ordinal       A day's place in its year, from 1 to as many days as the year
@@ -135,7 +136,7 @@
  *     2   the kind is none of 1 to 4
  *     3   the length field is not what the kind has, or the input is longer
  *         or shorter than that
- *     4   the system is neither 1 nor 2
+ *     4   the system is none of 1 to 3
  *     5   kinds 1 to 3: the year is outside 1 to 3000
  *     6   kinds 1 and 2: the month is outside 1 to 12, or the leap byte is
  *         neither 0 nor 1
@@ -159,11 +160,13 @@
 
 /* The version of this header and its library. The first number, which is also
  * that of the soname, rises when hosts have to be built anew, and the second
- * when a rule of the calendar changes: a record that an earlier version stored
- * can then name another day or none, and has to be stored anew, from the
- * register day that was answered with it. The third rises with what is told,
- * as when a refusal gets a number of its own, or the almanac a request. */
-#define CHISELBROW_VERSION "1.1.2"
+ * when the rules of the calendars change: a record that an earlier version
+ * stored can then name another day or none, and has to be stored anew, from
+ * the register day that was answered with it. Version 1.2 added Jingchu and
+ * left the other calendars as they were, so that what 1.1 stored stands. The
+ * third rises with what is told, as when a refusal gets a number of its own, or
+ * the almanac a request. */
+#define CHISELBROW_VERSION "1.2.0"
 
 #ifdef __cplusplus
 extern "C" {
@@ -172,7 +175,8 @@ extern "C" {
 /* Byte 4 of a record. */
 enum {
     CHISELBROW_GUANTIAN = 1,
-    CHISELBROW_JIYUAN = 2
+    CHISELBROW_JIYUAN = 2,
+    CHISELBROW_JINGCHU = 3
 };
 
 /* Bytes 2 and 3 of a record. */
@@ -342,7 +346,7 @@ chiselbrow_cite_day(uint8_t cited[CHISELBROW_DAY_SIZE], int64_t system,
 
 /* What a stored record tells. */
 struct chiselbrow_date {
-    unsigned system;    /* CHISELBROW_GUANTIAN or CHISELBROW_JIYUAN */
+    unsigned system;    /* CHISELBROW_GUANTIAN to CHISELBROW_JINGCHU */
     unsigned year;      /* 1 to 3000 */
     unsigned month;     /* 1 to 12 */
     unsigned leap;      /* 1 for a leap month, and otherwise 0 */
@@ -371,8 +375,8 @@ chiselbrow_read_date(const uint8_t *record, size_t record_len,
     read.month = record[7];
     read.leap = record[8];
     read.day = record[9];
-    if ((read.system != CHISELBROW_GUANTIAN &&
-         read.system != CHISELBROW_JIYUAN) ||
+    if (read.system < CHISELBROW_GUANTIAN ||
+        read.system > CHISELBROW_JINGCHU ||
         read.year < 1 || read.year > 3000 ||
         read.month < 1 || read.month > 12 || read.leap > 1 ||
         read.day < 1 || read.day > 30)
