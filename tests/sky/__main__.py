@@ -1,4 +1,5 @@
-"""The almanac beside the sky: its month heads, solstices and month numbers, and those by true new moons at Kaifeng.
+"""The almanac of Guantian and Jiyuan beside the sky: its month heads, solstices and month numbers, and those by true
+new moons at Kaifeng.
 
 usage: python3 tests/sky ALMANAC
 
@@ -13,7 +14,7 @@ import kaifeng
 from compare import by_date, by_name, tally_citations, tally_days, tally_heads, tally_numbers, true_months
 from pages import read_pages
 
-SYSTEMS = {"G": 1, "J": 2}
+SYSTEMS = {"G": 1, "J": 2}  # not Jingchu: by document 000 its solstices are days behind the sky
 IN_USE = {"G": (1091, 1105), "J": (1106, 1135)}  # README.md tells by which source
 # Year 3000 is left out: its last true month could only be numbered by the middle qi of the year after.
 OTHER_SPANS = ((1, 50), (2950, 2999), (1, 2999))
