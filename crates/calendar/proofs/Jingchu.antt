@@ -1,7 +1,8 @@
 -- Jingchu's constants against document 001 and paper 02, Q-6, computed.
 use Prim.Native.Nat.{_+_, _*_}
 use mathlib.Core.Path.{_≡_, refl}
-use Rattle.calendar.specs.Systems.{jingchu, yearsElapsed, registerDay}
+use Rattle.calendar.specs.declared.data.Constants.{Constants}
+use Rattle.calendar.specs.Systems.{jingchu, constantsOf, yearsElapsed, registerDay}
 use Rattle.calendar.specs.SixtyDayName.{nameOfCountDay, nameOf}
 use Rattle.calendar.specs.Steps.{solsticeDay, solsticeRemainder}
 
@@ -13,9 +14,13 @@ nineteen-years = refl
 pub month-is : jingchu .month ≡ 29 * jingchu .lunar + 2419
 month-is = refl
 
--- The solstice of 237: its register day, remainder, and name, by the rule for count days and by that for register days.
-pub solstice-of-237 : (registerDay jingchu (solsticeDay jingchu (yearsElapsed jingchu 237)) ≡ 1_807_614)
-    × (solsticeRemainder jingchu (yearsElapsed jingchu 237) ≡ 1161)
-    × (nameOfCountDay jingchu (solsticeDay jingchu (yearsElapsed jingchu 237)) ≡ 43)
+-- System 3 is Jingchu. The solstice of 237: its register day, remainder, and name, by the rule for count days and by that
+-- for register days.
+abbrev c : Constants
+c = constantsOf 3
+
+pub solstice-of-237 : (registerDay c (solsticeDay c (yearsElapsed c 237)) ≡ 1_807_614)
+    × (solsticeRemainder c (yearsElapsed c 237) ≡ 1161)
+    × (nameOfCountDay c (solsticeDay c (yearsElapsed c 237)) ≡ 43)
     × (nameOf 1_807_614 ≡ 43)
 solstice-of-237 = (refl, refl, refl, refl)

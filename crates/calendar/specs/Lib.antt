@@ -1,7 +1,7 @@
 -- The reckoning of paper 01, with the rules of paper 02. The first seven files render them in the order of paper 01, to
 -- be checked against both by reading.
 -- The words of this trade are in docs/TERMS.md, and how to read this notation is in docs/READING.md.
--- The constants of both systems, years elapsed, register days.
+-- The constants of the systems, years elapsed, register days.
 pub mod Systems
 -- The sixty-day name of a day.
 pub mod SixtyDayName

@@ -6,6 +6,6 @@ use Rattle.calendar.specs.declared.data.Constants.{Constants}
 abbrev pub nameOfCountDay : Constants → ℕ → ℕ
 nameOfCountDay c d = (d + c .name) % 60
 
--- The name of a register day, the same rule in both systems.
+-- The name of a register day, the same rule in all systems.
 abbrev pub nameOf : ℕ → ℕ
 nameOf r = (r + 49) % 60

@@ -75,11 +75,12 @@ constantsOf system = getD systems (system - 1) guantian
 abbrev pub yearsElapsed : Constants → ℕ → ℕ
 yearsElapsed c a = c .elapsed + a - c .common
 
--- Row "register day": r is the register day of count day d. Both are counted from the earlier of the two day 0.
+-- Row "register day": r is the register day of count day d. It is d less the anchor (01) or d plus the epoch's register
+-- day (Q-6); the other of the two is 0. Said by sums, since a difference is cut at 0.
 abbrev pub IsRegisterDay : Constants → ℕ → ℕ → Type 0
 IsRegisterDay c r d = r + c .anchor ≡ d + c .epoch
 
--- Each told from the other. A difference is cut at 0, where there is no such day.
+-- Each told from the other, where there is such a day.
 abbrev pub registerDay : Constants → ℕ → ℕ
 registerDay c d = d + c .epoch - c .anchor
 

@@ -7,7 +7,7 @@ pub struct DayName(pub u8);
 // The place of a day in its year, from 1.
 pub struct Ordinal(pub u16);
 
-// What differs between two systems. Paper 01, "Constants", in the order of its rows, and paper 02, Q-4.
+// All that differs between systems. Paper 01, "Constants", in the order of its rows, and paper 02, Q-4 and Q-6.
 pub struct Constants {
     // Parts in a day, D: of those in which the year is counted, and of those in which the month is. No rule compares
     // the two.
@@ -26,8 +26,8 @@ pub struct Constants {
     pub common: u64,
     // The sixty-day name of count day 0.
     pub name: u64,
-    // The count day of register day 0, where counting had begun by then, and the register day of count day 0, the
-    // epoch, where the register had; otherwise 0.
+    // The count day of register day 0, where the epoch lies before it; otherwise 0. And the register day of the epoch,
+    // which is count day 0, where it lies after; otherwise 0.
     pub anchor: u64,
     pub epoch: u64,
 }

@@ -2,7 +2,7 @@
 -- computed.
 use Prim.Native.Nat.{ℕ, _+_, _*_, _-_, _^_, _/_, _%_}
 use mathlib.Core.Path.{_≡_, refl}
-use mathlib.Core.List.{List, [], _∷_, map}
+use mathlib.Core.List.{List, [], _∷_, _++_, map}
 use lib.ListN.{replicate}
 use Rattle.calendar.specs.Systems.{constantsOf, yearsElapsed}
 use Rattle.calendar.specs.SixtyDayName.{nameOf}
@@ -40,8 +40,10 @@ pub data Question : Type 0 where
   -- a month by its place from 1: its number and leap mark; its head and days
   Number : ℕ → ℕ → ℕ → Question
   Month : ℕ → ℕ → ℕ → Question
-  -- a citation, with an output of ten bytes: its refusal and the month told; the answer to C; its stored record
+  -- a citation, with an output of ten bytes or of nine: its refusal and the month told; the answer to C; its stored
+  -- record
   Refusal : List ℕ → Question
+  RefusalOfNine : List ℕ → Question
   Answer : List ℕ → Question
   Stored : List ℕ → Question
 
@@ -78,6 +80,7 @@ answer (Number system year place) =
 answer (Month system year place) =
     let v = yearOf system year in (headIn v (place - 1)) ∷ (headIn v place - headIn v (place - 1)) ∷ []
 answer (Refusal s) = refusalOf s 10 ∷ toldOf s ∷ []
+answer (RefusalOfNine s) = refusalOf s 9 ∷ toldOf s ∷ []
 answer (Answer s) = answerOf s 10 ∷ []
 answer (Stored s) = storedInto s (replicate 10 0)
 
@@ -128,6 +131,12 @@ table =
     ∷ (Month 1 1092 1 gives (2_119_892 ∷ 30 ∷ []))
     ∷ (Refusal (byName 1 1092 11 0 50) gives (0 ∷ 0 ∷ []))
     ∷ (Refusal (byName 1 1092 11 0 51) gives (7 ∷ 0 ∷ []))
+    -- what is no record: too short, of kind 5, nine bytes long, or longer than its kind; and an output of nine bytes
+    ∷ (Refusal (10 ∷ 0 ∷ 1 ∷ []) gives (1 ∷ 0 ∷ []))
+    ∷ (Refusal (10 ∷ 0 ∷ 5 ∷ 0 ∷ []) gives (2 ∷ 0 ∷ []))
+    ∷ (Refusal (9 ∷ 0 ∷ 1 ∷ 0 ∷ []) gives (3 ∷ 0 ∷ []))
+    ∷ (Refusal (byOrdinal 1 1092 1 ++ 0 ∷ []) gives (3 ∷ 0 ∷ []))
+    ∷ (RefusalOfNine (byOrdinal 1 1092 1) gives (8 ∷ 0 ∷ []))
     -- case 5
     ∷ (Head 1 1094 gives (2_120_601 ∷ []))
     ∷ (Months 1 1094 gives (13 ∷ []))
@@ -204,7 +213,7 @@ table =
     ∷ (Moon 3 239 gives (1_808_345 ∷ 54 ∷ 564 ∷ []))
     -- year 8 has leap 1 by the days of the middle qi; by their moments it would be leap 2
     ∷ (Number 3 8 4 gives (1 ∷ 1 ∷ []))
-    -- and 236 leap 2, where the rounding of 001 would have the fourth month leap
+    -- and 236 leap 2, where the rounding of 001 would have leap 1
     ∷ (Number 3 236 5 gives (2 ∷ 1 ∷ []))
     -- four records of one day
     ∷ (Stored (byDate 3 238 10 1 1) gives byDate 3 238 10 1 1)
@@ -218,7 +227,15 @@ table =
     ∷ (Stored (byDay 3 2_817_138) gives byDate 3 3000 10 0 29)
     ∷ (Refusal (byDay 3 1_721_406) gives (7 ∷ 0 ∷ []))
     ∷ (Refusal (byDay 3 2_817_139) gives (7 ∷ 0 ∷ []))
+    -- there is no system 4, and none 0, whatever else is wrong
     ∷ (Refusal (byDay 4 1_808_315) gives (4 ∷ 0 ∷ []))
+    ∷ (Refusal (byDay 4 0) gives (4 ∷ 0 ∷ []))
+    ∷ (Refusal (byDate 4 0 13 2 31) gives (4 ∷ 0 ∷ []))
+    ∷ (Refusal (byDay 0 1_808_315) gives (4 ∷ 0 ∷ []))
+    ∷ (Refusal (byOrdinal 0 238 1) gives (4 ∷ 0 ∷ []))
+    ∷ (Refusal (byName 0 238 10 1 24) gives (4 ∷ 0 ∷ []))
+    ∷ (Pentad 0 237 1 gives (4 ∷ 0 ∷ 49 ∷ 0 ∷ 0 ∷ []))
+    ∷ (InForceOn 0 1_808_315 gives (4 ∷ 0 ∷ 0 ∷ []))
     -- days before the epoch, and the epoch
     ∷ (Refusal (byDay 3 0) gives (7 ∷ 0 ∷ []))
     ∷ (Refusal (byDay 3 330_190) gives (7 ∷ 0 ∷ []))

@@ -21,6 +21,7 @@ stored s before = take 10 (storedInto s before)
 -- Count day d has one stored record in a system. It is bytes, an accepted citation of kind 1 for that day; whatever
 -- accepted citation names the day is stored as it; and no other citation of kind 1 names the day in that system.
 pub record OneRecord (system d : ℕ) : Type 0 where
+  -- its register day
   pub day : ℕ
   pub is-day : IsRegisterDay (constantsOf system) day d
   pub it : List ℕ

@@ -37,6 +37,24 @@ unfolding framingWithin linesOf lineOf storedLine year month word field fields d
     judgeOf lengthRight judgeKind judgeDay judgeName judgeOrdinal judgeRegisterDay yearRefusal ordinalDayOf ordinalDayIn monthOf monthIn dateOf dateIn
 shown-run = refl
 
+-- One day by number in each system, and in one that there is not.
+abbrev pub day-in : ℕ → List ℕ
+day-in system = 0x09 ∷ 0x00 ∷ 0x04 ∷ 0x00 ∷ system ∷ 0xBB ∷ 0x97 ∷ 0x1B ∷ 0x00 ∷ []
+
+-- " 1 1808315 24", after "G 239 11" and "J 239 11", or after "W 238 10*"
+abbrev on-the-day : List ℕ
+on-the-day = 32 ∷ 49 ∷ 32 ∷ 49 ∷ 56 ∷ 48 ∷ 56 ∷ 51 ∷ 49 ∷ 53 ∷ 32 ∷ 50 ∷ 52 ∷ 10 ∷ []
+
+-- "refused 4"
+abbrev pub system-line : List ℕ
+system-line = refused (52 ∷ 10 ∷ [])
+
+pub run-of-each-system : outputOf (day-in 1 ++ day-in 2 ++ day-in 3 ++ day-in 4)
+    ≡ (71 ∷ 32 ∷ 50 ∷ 51 ∷ 57 ∷ 32 ∷ 49 ∷ 49 ∷ on-the-day) ++ (74 ∷ 32 ∷ 50 ∷ 51 ∷ 57 ∷ 32 ∷ 49 ∷ 49 ∷ on-the-day) ++ (87 ∷ 32 ∷ 50 ∷ 51 ∷ 56 ∷ 32 ∷ 49 ∷ 48 ∷ 42 ∷ on-the-day) ++ system-line
+unfolding framingWithin linesOf lineOf storedLine year month word field fields decimal
+    judgeOf lengthRight judgeKind judgeRegisterDay dateOf dateIn
+run-of-each-system = refl
+
 -- Leap 5 in Guantian 1094, by date and by name, and in Guantian 1092; month 13 with leap 1; leap byte 2.
 abbrev pub leap-months : List ℕ
 leap-months =

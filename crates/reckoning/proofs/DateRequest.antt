@@ -1,4 +1,4 @@
--- The date of a register day: its numbers fit, and its year tells whether it is in scope.
+-- The date of a register day: from the epoch on its year tells whether it is in scope.
 use Prim.Native.Nat.{ℕ, _+_, _-_, _/_, _%_}
 use mathlib.Core.Path.{_≡_, sym, ap, _∙_}
 use mathlib.Core.Bool.{Bool, true, false}

@@ -1,4 +1,4 @@
--- The pentad in force on a register day: its year tells whether the day is in scope.
+-- The pentad in force on a register day: from the epoch on its year tells whether the day is in scope.
 use Prim.Native.Nat.{ℕ, _+_, _/_, _%_}
 use mathlib.Core.Path.{_≡_, sym, ap, _∙_}
 use mathlib.Core.Bool.{Bool, true, false}

@@ -22,6 +22,7 @@ pub record IsSolstice (c : Constants) (n : ℕ) (v : Solstice) : Type 0 where
 -- The moment m, counted in units of which a part has u: its day, parts and units together, to the last unit.
 pub record IsMoment (c : Constants) (u m : ℕ) (v : Moment) : Type 0 where
   pub accepted : v .refusal ≡ 0
+  -- its count day
   pub day : ℕ
   pub is-day : IsRegisterDay c (v .day .0) day
   pub moment : (day * c .solar + v .parts) * u + v .units ≡ m

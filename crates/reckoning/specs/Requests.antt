@@ -43,7 +43,7 @@ answerTo asked answer blank = cond (eqb (asked .refusal) 0) (answer (asked .c) (
 abbrev pub answerUnless : {A : Type 0} → ℕ → ℕ → ℕ → (Constants → ℕ → A) → (ℕ → A) → A
 answerUnless refusal system year answer blank = answerTo (askedOf refusal system year) answer blank
 
--- A request by system and register day: refused SYSTEM where there is no such system, or answered by its constants.
+-- A request by system: refused SYSTEM where there is no such system, or answered by its constants.
 abbrev pub answerOfSystem : {A : Type 0} → ℕ → (Constants → A) → (ℕ → A) → A
 answerOfSystem system answer blank = cond (noSuchSystem system) (blank SYSTEM) (answer (constantsOf system))
 

@@ -1,5 +1,5 @@
 -- What is in scope, and so when refusals SYSTEM, YEAR, MONTH and LEAP apply, and DAY to a register day: paper 01,
--- "Numbered refusals", and paper 02, Q-3 and Q-4.
+-- "Numbered refusals", and paper 02, Q-3, Q-4 and Q-6.
 use Prim.Native.Nat.{ℕ, _≤_, _<_}
 use mathlib.Core.Path.{_≡_}
 use mathlib.Core.Logic.{_⊎_}
@@ -9,11 +9,11 @@ use Rattle.calendar.specs.Systems.{lastSystem, constantsOf, yearsElapsed, IsReg
 use Rattle.calendar.specs.Steps.{solsticeDay}
 use Rattle.calendar.specs.Year.{Span, yearHead, HasLeap}
 
--- Refusal SYSTEM is for any other system,
+-- Systems 1 to 3, as many as `systems` lists; refusal SYSTEM is for any other,
 abbrev pub SystemInScope : ℕ → Type 0
 SystemInScope system = Inside 1 lastSystem system
 
--- and refusal YEAR for any other year.
+-- and years 1 to 3000; refusal YEAR is for any other.
 abbrev pub YearInScope : ℕ → Type 0
 YearInScope year = Inside 1 3000 year
 
@@ -33,6 +33,7 @@ NotLeap c n number leap = (leap ≡ 1) × (HasLeap c n number → ⊥)
 -- The register days of years 1 to 3000, by the heads of years 1 and 3001; a citation by register day and a request for
 -- a date are refused DAY for any other.
 pub record DayInScope (system r : ℕ) : Type 0 where
+  -- its count day
   pub day : ℕ
   pub is-day : IsRegisterDay (constantsOf system) r day
   pub first : Span (constantsOf system) (yearsElapsed (constantsOf system) 1)
@@ -43,6 +44,7 @@ pub record DayInScope (system r : ℕ) : Type 0 where
 -- The register days of years 1 to 3000 counted from solstice to solstice, by the solstice days of years 1 and 3001; a
 -- request for the pentad in force is refused DAY for any other.
 pub record SolarDayInScope (system r : ℕ) : Type 0 where
+  -- its count day
   pub day : ℕ
   pub is-day : IsRegisterDay (constantsOf system) r day
   pub from : solsticeDay (constantsOf system) (yearsElapsed (constantsOf system) 1) ≤ day

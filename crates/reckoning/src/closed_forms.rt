@@ -1,5 +1,5 @@
 // Years, days, steps and numbers, over the constants of one system. The bounds that each function asks for keep its
-// numbers within 64 bits; every year in scope and every register day meets them.
+// numbers within 64 bits; every year in scope meets them, and every register day from the epoch on.
 ghost use mathlib.Core.Path.{_≡_};
 ghost use mathlib.Core.Bool.{false};
 ghost use Prim.Native.Nat.{_%_, _<_, _^_};

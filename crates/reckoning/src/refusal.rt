@@ -1,5 +1,5 @@
 // Numbered refusals of the requests by system and year: `of_` functions give the first that applies, or 0. DAY is told by
-// the year of a day (`closed_forms::out_of_scope`).
+// the year of a day (`closed_forms::out_of_scope`), and before the epoch by `closed_forms::before_epoch`.
 ghost use mathlib.Core.Path.{_≡_};
 ghost use Rattle.reckoning.specs.ComputedRefusals.{outside, outOfYears, yearRefusal, stepRefusal};
 use crate::refusal_numbers::STEP;

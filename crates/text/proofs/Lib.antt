@@ -9,3 +9,5 @@ pub mod Decimals
 pub mod ReadBack
 -- How long the pieces of a line are at most.
 pub mod Lengths
+-- The letters of the systems.
+pub mod Letters

@@ -30,9 +30,13 @@ newline = 10 ∷ []
 abbrev pub line : List ℕ → List ℕ → List ℕ
 line bytes numbers = word bytes ++ (fields numbers ++ newline)
 
--- The letter of a system by its number: G of Guantian, J of Jiyuan, W of Jingchu; '?' of a number that is no system's.
+-- The letters of the systems, in the order of their numbers: G of Guantian, J of Jiyuan, W of Jingchu.
+abbrev pub letters : List ℕ
+letters = 71 ∷ 74 ∷ 87 ∷ []
+
+-- The letter of a system; '?' of a number that is no system's.
 abbrev pub letterOf : ℕ → ℕ
-letterOf system = getD (63 ∷ 71 ∷ 74 ∷ 87 ∷ []) system 63
+letterOf system = getD (63 ∷ letters) system 63
 
 -- A year of a system: its letter and the year.
 unfoldable pub year : ℕ → ℕ → List ℕ

@@ -1,18 +1,8 @@
-use Prim.Native.Nat.{ℕ, zero, suc, _≤_}
-use mathlib.Core.Path.{_≡_, refl}
 use native.Mathlib.Omega.{arith}
-use Rattle.text.specs.Piece.{letterOf}
+use Rattle.text.proofs.Letters.{no-letter}
 use borrow.Author.Needs.{needs}
 use Rattle.text.proofs.letter_of.Statement.{statement}
 use Rattle.text.proofs.letter_of.Tie as tie
-
--- A number that is no system's.
-no-letter : (system : ℕ) → (1 ≤ system → system ≤ 3 → ⊥) → 63 ≡ letterOf system
-no-letter zero none = refl
-no-letter (suc zero) none = absurd (none (omega arith) (omega arith))
-no-letter (suc (suc zero)) none = absurd (none (omega arith) (omega arith))
-no-letter (suc (suc (suc zero))) none = absurd (none (omega arith) (omega arith))
-no-letter (suc (suc (suc (suc n)))) none = refl
 
 returns : tie.Need-returns
 returns c = search needs
