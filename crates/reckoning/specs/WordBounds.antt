@@ -23,7 +23,6 @@ pub record ConstantsFit (c : Constants) : Type 0 where
   pub years : 2 ^ 32 * c .year < 2 ^ 63
   pub elapsed-small : c .elapsed < 2 ^ 31
   pub anchor-small : c .anchor < 2 ^ 35
-  pub epoch-small : c .epoch < 2 ^ 31
 
 -- Count day d has a register day of 32 bits, with room for a year's days after it.
 pub record InRegister (c : Constants) (d : ℕ) : Type 0 where
