@@ -8,7 +8,7 @@ use borrow.Author.Tests.{ltb-false, lt-ltb, le-ltb}
 use Rattle.calendar.specs.Inside.{Inside}
 use Rattle.calendar.specs.Systems.{lastSystem}
 use Rattle.reckoning.specs.Scope.{SystemInScope, YearInScope, InScope}
-use Rattle.reckoning.specs.ComputedRefusals.{outside, noSuchSystem, yearRefusal, stepRefusal}
+use Rattle.reckoning.specs.ComputedRefusals.{outside, noSuchSystem, outOfYears, yearRefusal, stepRefusal}
 use Rattle.reckoning.specs.RefusalNumbers.{SYSTEM, YEAR, STEP}
 
 -- Where no rule gave a number, the first did not apply, nor did any other.
@@ -31,8 +31,8 @@ inside least most x h = simp (le-ltb x least (h .at-least), le-ltb most x (h .at
 pub accepted : (system year : ℕ) → yearRefusal system year ≡ 0 → InScope system year
 unfolding yearRefusal
 accepted system year e =
-    let system-right = passed SYSTEM (noSuchSystem system) (cond (outside 1 3000 year) YEAR 0) (omega arith) e in
-    let year-right = passed YEAR (outside 1 3000 year) 0 (omega arith) (system-right .1) in
+    let system-right = passed SYSTEM (noSuchSystem system) (cond (outOfYears year) YEAR 0) (omega arith) e in
+    let year-right = passed YEAR (outOfYears year) 0 (omega arith) (system-right .1) in
     record { system-inside = inside-of 1 lastSystem system (system-right .0); year-inside = inside-of 1 3000 year (year-right .0) }
 
 pub in-scope : (system year : ℕ) → InScope system year → yearRefusal system year ≡ 0
@@ -76,11 +76,11 @@ module _ (system year : ℕ) where
   unfolding yearRefusal
   refused-system e = simp e
 
-  pub refused-year : noSuchSystem system ≡ false → outside 1 3000 year ≡ true → YEAR ≡ yearRefusal system year
+  pub refused-year : noSuchSystem system ≡ false → outOfYears year ≡ true → YEAR ≡ yearRefusal system year
   unfolding yearRefusal
   refused-year e f = simp (e, f)
 
-  pub not-refused : noSuchSystem system ≡ false → outside 1 3000 year ≡ false → _≡_ {A = ℕ} 0 (yearRefusal system year)
+  pub not-refused : noSuchSystem system ≡ false → outOfYears year ≡ false → _≡_ {A = ℕ} 0 (yearRefusal system year)
   unfolding yearRefusal
   not-refused e f = simp (e, f)
 
@@ -88,7 +88,7 @@ module _ (system year : ℕ) where
 module _ (most system year i : ℕ) where
   pub step-unseen : (yearRefusal system year ≡ 0 → ⊥) → yearRefusal system year ≡ stepRefusal most system year i
   unfolding yearRefusal stepRefusal
-  step-unseen h = either (noSuchSystem system) (outside 1 3000 year) h
+  step-unseen h = either (noSuchSystem system) (outOfYears year) h
     where
       either : (a b : Bool) → (_≡_ {A = ℕ} (cond a SYSTEM (cond b YEAR 0)) 0 → ⊥)
           → _≡_ {A = ℕ} (cond a SYSTEM (cond b YEAR 0)) (cond a SYSTEM (cond b YEAR (cond (ltb most i) STEP 0)))
@@ -106,9 +106,9 @@ module _ (most system year i : ℕ) where
   unfolding stepRefusal
   accepted-step e =
       let system-right =
-      passed SYSTEM (noSuchSystem system) (cond (outside 1 3000 year) YEAR (cond (ltb most i) STEP 0)) (omega arith) e
+      passed SYSTEM (noSuchSystem system) (cond (outOfYears year) YEAR (cond (ltb most i) STEP 0)) (omega arith) e
       in
-      let year-right = passed YEAR (outside 1 3000 year) (cond (ltb most i) STEP 0) (omega arith) (system-right .1) in
+      let year-right = passed YEAR (outOfYears year) (cond (ltb most i) STEP 0) (omega arith) (system-right .1) in
       let step-right = passed STEP (ltb most i) 0 (omega arith) (year-right .1) in (
         record { system-inside = inside-of 1 lastSystem system (system-right .0); year-inside = inside-of 1 3000 year (year-right .0) },
         ltb-false most i (step-right .0),
