@@ -160,12 +160,14 @@
 
 /* The version of this header and its library. The first number, which is also
  * that of the soname, rises when hosts have to be built anew, and the second
- * when the rules of the calendars change: a record that an earlier version
- * stored can then name another day or none, and has to be stored anew, from
- * the register day that was answered with it. Version 1.2 added Jingchu and
- * left the other calendars as they were, so that what 1.1 stored stands. The
- * third rises with what is told, as when a refusal gets a number of its own, or
- * the almanac a request. */
+ * when the rules of the calendars change or a calendar is added. Where rules
+ * changed, a record that an earlier version stored can name another day or
+ * none, and has to be stored anew, from the register day that was answered with
+ * it. Version 1.2 added Jingchu and left the other calendars as they were, so
+ * that what 1.1 stored stands; a host that was built with the header of 1.1
+ * stores records of Jingchu, but does not read them with chiselbrow_read_date.
+ * The third rises with what is told, as when a refusal gets a number of its
+ * own, or the almanac a request. */
 #define CHISELBROW_VERSION "1.2.0"
 
 #ifdef __cplusplus

@@ -126,8 +126,9 @@ pub fn days(system: u32, year: u32) -> Days
     year_days::of_year(system, asked.c, year)
 }
 
-// Below are what a citation asks (a year's head, a month, a date) and the pentad in force. They name the systems one by
-// one, so that the compiler knows the constants and need not divide by variables: a system more is an arm more in each.
+// Below are what a citation asks (a month, a day by its ordinal, a date), the head that the second stands on, and the
+// pentad in force. The systems are named one by one, so that the compiler knows the constants and need not divide by
+// variables: a system more is an arm more in each `match`.
 
 // The head of a year, reckoned even where it is printed: among the code of the storing step the compiler makes a jump of
 // the read from the page, which takes longer.
