@@ -1,7 +1,7 @@
 //! The check of this program itself: the examples and the general facts of
 //! papers 01 and 02, with the papers' numbers written out.
 
-use crate::citation::{answer, store, Refusal};
+use crate::citation::{answer, store, Refusal, Stored};
 use crate::heads;
 use crate::lines::lines;
 use crate::pentads::{in_force_line, page, Pentads};
@@ -165,10 +165,7 @@ fn examples(tables: &Tables, checks: &mut Checks) {
     let third = [0x09, 0x00, 0x03, 0x00, 0x01, 0x46, 0x04, 0xD0, 0x00];
     let fourth = [0x09, 0x00, 0x04, 0x00, 0x01, 0x68, 0x5C, 0x20, 0x00];
     let four: [&[u8]; 4] = [&first, &second, &third, &fourth];
-    for record in four {
-        checks.same("9, stored", store(tables, record, 10), Ok((2120808, first)));
-        checks.same("9, no room", store(tables, record, 9), Err(Refusal::plain(8)));
-    }
+    stored_alike(tables, checks, "9", &four, (2120808, first));
 
     let y = jiyuan.year(1107);
     checks.same("10, months of 1107", y.months.len(), 13);
@@ -188,6 +185,15 @@ fn examples(tables: &Tables, checks: &mut Checks) {
     // Two days of one name, sixty apart.
     checks.same("shared name, first", name_of(2120808), 37);
     checks.same("shared name, second", name_of(2120868), 37);
+}
+
+/// Records that name one day are all stored as the same ten bytes, and refused
+/// where there is room for nine.
+fn stored_alike(tables: &Tables, checks: &mut Checks, case: &str, records: &[&[u8]], stored: Stored) {
+    for record in records {
+        checks.same(&format!("{}, stored", case), store(tables, record, 10), Ok(stored));
+        checks.same(&format!("{}, no room", case), store(tables, record, 9), Err(Refusal::plain(8)));
+    }
 }
 
 /// What Q-2 says of two days on which a new moon follows a qi.
@@ -548,10 +554,7 @@ fn jingchu_days(tables: &Tables, checks: &mut Checks) {
     let third = [0x09, 0x00, 0x03, 0x00, 0x03, 0xEE, 0x00, 0x63, 0x01];
     let fourth = [0x09, 0x00, 0x04, 0x00, 0x03, 0xBB, 0x97, 0x1B, 0x00];
     let four: [&[u8]; 4] = [&first, &second, &third, &fourth];
-    for record in four {
-        checks.same("Q-6, stored", store(tables, record, 10), Ok((1808315, first)));
-        checks.same("Q-6, no room", store(tables, record, 9), Err(Refusal::plain(8)));
-    }
+    stored_alike(tables, checks, "Q-6", &four, (1808315, first));
     let expected = "W 238 10* 1 1808315 24\n".repeat(4);
     checks.same("Q-6, the program", lines_of(tables, &four.concat()), expected);
 

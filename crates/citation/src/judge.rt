@@ -144,8 +144,8 @@ fn judge_name(m: Month, system: u32, year: u32, month: u32, leap: u32, name: Day
     accept(m.head.0 + days, system, year, month, leap, days + 1)
 }
 
-// A record whose kind and length are right. What is asked of the reckoning is each asked at one place: the compiler copies
-// requests of their size only into the one place that calls them.
+// A record whose kind and length are right. Each request to the reckoning stands at one place: the compiler copies those
+// of their size only into the one place that calls them.
 fn judge_kind(s: &[u8], kind: u32) -> Judgement
     requires { ⌜ Whole (now s) kind ⌝ }
     ensures { λ r. ⌜ r ≡ judgeKind (now (s .entry)) ⌝ }

@@ -6,10 +6,11 @@ use native.Mathlib.Omega.{arith}
 use borrow.Author.Tests.{eq-eqb, ne-eqb}
 use Rattle.calendar.specs.declared.data.Constants.{Constants}
 use Rattle.reckoning.specs.declared.asked.Asked.{Asked}
+use Rattle.calendar.specs.Inside.{Inside}
 use Rattle.calendar.specs.Systems.{lastSystem, constantsOf, yearsElapsed}
 use Rattle.reckoning.specs.ComputedRefusals.{outOfYears, yearRefusal}
-use Rattle.reckoning.specs.RefusalNumbers.{YEAR}
-use Rattle.reckoning.proofs.RefusalCases.{inside-of, in-scope, accepted, by-inside}
+use Rattle.reckoning.specs.RefusalNumbers.{SYSTEM, YEAR}
+use Rattle.reckoning.proofs.RefusalCases.{inside-of, in-scope, accepted, by-inside, by-scope}
 use Rattle.reckoning.specs.Asked.{askedOf}
 use Rattle.reckoning.specs.Requests.{answerTo, answerUnless, answerOfSystem, answerOfYear}
 use Rattle.reckoning.specs.WordBounds.{YearInRegister}
@@ -74,6 +75,29 @@ pub in-register-here : (system year : ℕ) (c : Constants) → constantsOf syste
     → YearInRegister c (yearsElapsed c year)
 in-register-here system year c e z =
     subst (λ k. YearInRegister k (yearsElapsed k year)) e (year-in-register system year ((accepted system year z) .year-inside))
+
+-- What was answered to a request by system and year carries a number: it is the request's refusal, at most YEAR, and the
+-- blank; or the request is in scope.
+module _ {A : Type 0} (number : A → ℕ) (blank : ℕ → A) (carries : (refusal : ℕ) → number (blank refusal) ≡ refusal)
+    (answer : Constants → ℕ → A)
+    (system year : ℕ)
+    {v : A}
+    (is : v ≡ answerUnless (yearRefusal system year) system year answer blank)
+  where
+    pub by-answer : {P : Type 0}
+        → ((refusal : ℕ) → yearRefusal system year ≡ refusal → Inside 1 YEAR refusal → number v ≡ refusal → v ≡ blank refusal → P)
+        → (InScope system year → v ≡ answer (constantsOf system) (yearsElapsed (constantsOf system) year) → P)
+        → P
+    by-answer {P} refused found =
+        by-scope system year
+        (λ no-system e. with-number SYSTEM e (omega arith))
+        (λ s no-year e. with-number YEAR e (omega arith))
+        (λ s. found s (is ∙ sym (answered-year answer blank system year s)))
+      where
+        with-number : (refusal : ℕ) → yearRefusal system year ≡ refusal → Inside 1 YEAR refusal → P
+        with-number refusal e i =
+            let blank-is = is ∙ refused-year answer blank system year refusal e (i .at-least) in
+            refused refusal e i (ap number blank-is ∙ carries refusal) blank-is
 
 -- What is asked by system and year and not refused: the constants are the system's, and the year lies within the
 -- register.

@@ -1,10 +1,11 @@
 -- The month of a year with a number and a leap mark: what each case of the request answers.
 use Prim.Native.Nat.{ℕ, _+_, _%_, _≤_, _<_}
-use mathlib.Core.Path.{_≡_, subst, sym, ap, _∙_}
+use mathlib.Core.Path.{_≡_, refl, subst, sym, ap, _∙_}
 use mathlib.Core.Bool.{true, false}
 use native.Mathlib.Omega.{arith}
 use borrow.Author.Tests.{lt-ltb, le-ltb}
 use Rattle.calendar.specs.declared.data.Constants.{Constants}
+use Rattle.calendar.specs.Inside.{Inside}
 use Rattle.calendar.specs.Systems.{constantsOf, yearsElapsed}
 use Rattle.calendar.specs.Month.{monthHead}
 use Rattle.calendar.specs.Calendar.{Calendar}
@@ -19,10 +20,10 @@ use Rattle.reckoning.specs.MonthSpans.{monthSpan}
 use Rattle.reckoning.specs.Scope.{InScope}
 use Rattle.reckoning.specs.WordBounds.{SpanFits, InRegister, YearInRegister}
 use Rattle.reckoning.specs.ComputedRefusals.{outside, yearRefusal, monthWrong, leapWrong}
-use Rattle.reckoning.proofs.RefusalCases.{inside-of, by-scope}
+use Rattle.reckoning.proofs.RefusalCases.{inside-of}
 use Rattle.reckoning.specs.Requests.{answerUnless, monthAt, noMonthTelling, noMonth, monthIn, monthSilent, monthTelling, monthOf}
-use Rattle.reckoning.specs.RefusalNumbers.{SYSTEM, YEAR, MONTH, LEAP}
-use Rattle.reckoning.proofs.AnswerUnless.{refused-year, answered-year}
+use Rattle.reckoning.specs.RefusalNumbers.{YEAR, MONTH, LEAP}
+use Rattle.reckoning.proofs.AnswerUnless.{refused-year, answered-year, by-answer}
 use Rattle.reckoning.proofs.MonthSpanLaws.{span-fits}
 
 module _ (c : Constants) (n number leap told : ℕ) where
@@ -82,45 +83,36 @@ module _ (system year number leap : ℕ) {m : Month}
     abbrev n : ℕ
     n = yearsElapsed c year
 
-    -- refused by system or year, with that number
-    refused-alike : (refusal : ℕ) → yearRefusal system year ≡ refusal → 0 < refusal
-        → (m .refusal ≡ refusal) × (m ≡ monthOf system year number leap)
-    unfolding monthOf
-    refused-alike refusal e some =
-        let blank = refused-year (monthSilent number leap) noMonth system year refusal e some in
-        let other = refused-year (monthTelling number leap) noMonth system year refusal e some in
-        (ap (λ x. x .refusal) (is ∙ blank), is ∙ blank ∙ sym other)
-
-    found-is : InScope system year → m ≡ monthIn c n number leap 0
-    found-is s = is ∙ sym (answered-year (monthSilent number leap) noMonth system year s)
-
     answered : InScope system year → monthTelling number leap c n ≡ monthOf system year number leap
     unfolding monthOf
     answered s = answered-year (monthTelling number leap) noMonth system year s
 
+    by-found : {P : Type 0}
+        → ((refusal : ℕ) → yearRefusal system year ≡ refusal → Inside 1 YEAR refusal → m .refusal ≡ refusal → m ≡ noMonth refusal → P)
+        → (InScope system year → m ≡ monthIn c n number leap 0 → P)
+        → P
+    by-found = by-answer (λ x. x .refusal) noMonth (λ refusal. refl) (monthSilent number leap) system year is
+
     -- LEAP is refused in scope only
     pub silent-in-scope : m .refusal ≡ LEAP → InScope system year
-    silent-in-scope l =
-        by-scope system year
-        (λ no-system e. absurd (omega (arith, refused-alike SYSTEM e (omega arith))))
-        (λ s no-year e. absurd (omega (arith, refused-alike YEAR e (omega arith))))
-        (λ s. s)
+    silent-in-scope l = by-found (λ refusal e i here blank. absurd (omega (arith, i))) (λ s found. s)
 
     pub leap-told : {told : ℕ} → m .refusal ≡ LEAP → told ≡ leapNumber c n
         → noMonthTelling LEAP told ≡ monthOf system year number leap
     leap-told l t =
-        let s = silent-in-scope l in
+        by-found (λ refusal e i here blank. absurd (omega (arith, i)))
+        (λ s found.
         ap (noMonthTelling LEAP) t
-        ∙ telling c n number leap (leapNumber c n) (sym (ap (λ x. x .refusal) (found-is s)) ∙ l)
-        ∙ answered s
+        ∙ telling c n number leap (leapNumber c n) (sym (ap (λ x. x .refusal) found) ∙ l)
+        ∙ answered s)
 
     pub month-answered : (m .refusal ≡ LEAP → ⊥) → m ≡ monthOf system year number leap
+    unfolding monthOf
     month-answered l =
-        by-scope system year
-        (λ no-system e. refused-alike SYSTEM e (omega arith) .1)
-        (λ s no-year e. refused-alike YEAR e (omega arith) .1)
-        (λ s.
-        let found = found-is s in
+        by-found
+        (λ refusal e i here blank.
+        blank ∙ sym (refused-year (monthTelling number leap) noMonth system year refusal e (i .at-least)))
+        (λ s found.
         found ∙ telling-nothing c n number leap (leapNumber c n) (λ e. l (ap (λ x. x .refusal) found ∙ e)) ∙ answered s)
 
 -- Months of a year within the register, and whether a leap month follows one of them.

@@ -1,9 +1,10 @@
 -- The day of a year by its ordinal: its numbers fit, and its month's last middle qi tells whether the year has it.
 use Prim.Native.Nat.{ℕ, _+_, _*_, _-_, _%_, _^_, _≤_, _<_}
-use mathlib.Core.Path.{_≡_, ap, sym, _∙_}
+use mathlib.Core.Path.{_≡_, refl, ap, sym, _∙_}
 use native.Mathlib.Omega.{arith}
 use Rattle.calendar.specs.declared.data.Constants.{Constants}
 use Rattle.calendar.specs.declared.data.RegisterDay.{RegisterDay}
+use Rattle.calendar.specs.Inside.{Inside}
 use Rattle.calendar.specs.Systems.{constantsOf, yearsElapsed, registerDay}
 use Rattle.calendar.specs.Month.{monthHead, numberOf}
 use Rattle.calendar.specs.Calendar.{Calendar}
@@ -18,11 +19,11 @@ use Rattle.reckoning.specs.Scope.{InScope}
 use Rattle.reckoning.specs.declared.month_spans.MonthSpan.{MonthSpan}
 use Rattle.reckoning.specs.declared.month_spans.LastQi.{LastQi}
 use Rattle.reckoning.specs.MonthSpans.{monthSpan, lastQi}
-use Rattle.reckoning.specs.RefusalNumbers.{SYSTEM, YEAR, DAY}
+use Rattle.reckoning.specs.RefusalNumbers.{YEAR, DAY}
 use Rattle.reckoning.specs.Requests.{asRegisterDay, yearHeadIn, noYearHead, yearHeadOf, ordinalDayAt, noOrdinalDay, ordinalDayIn, ordinalDayOf}
 use Rattle.reckoning.specs.WordBounds.{InRegister, YearInRegister}
-use Rattle.reckoning.proofs.RefusalCases.{inside, outside-of, by-scope}
-use Rattle.reckoning.proofs.AnswerUnless.{refused-year, answered-year}
+use Rattle.reckoning.proofs.RefusalCases.{inside, outside-of}
+use Rattle.reckoning.proofs.AnswerUnless.{refused-year, answered-year, by-answer}
 use Rattle.reckoning.proofs.RegisterLaws.{first-head, next-head}
 
 -- No ordinal is 0.
@@ -98,35 +99,27 @@ module _ {c : Constants} {n ordinal : ℕ} (y : YearInRegister c n) (some : 0 < 
 
 -- The whole request, from the year's head.
 module _ (system year ordinal : ℕ) {h : YearHead} (is : h ≡ yearHeadOf system year) where
-  refused-alike : (refusal : ℕ) → yearRefusal system year ≡ refusal → 0 < refusal
-      → (h .refusal ≡ refusal) × (noOrdinalDay refusal ≡ ordinalDayOf system year ordinal)
-  unfolding yearHeadOf ordinalDayOf
-  refused-alike refusal e some = (
-    ap (λ x. x .refusal) (is ∙ refused-year yearHeadIn noYearHead system year refusal e some),
-    sym (refused-year (ordinalDayIn ordinal) noOrdinalDay system year refusal e some),
-  )
-
-  found-is : InScope system year → h ≡ yearHeadIn (constantsOf system) (yearsElapsed (constantsOf system) year)
+  by-head : {P : Type 0}
+      → ((refusal : ℕ) → yearRefusal system year ≡ refusal → Inside 1 YEAR refusal → h .refusal ≡ refusal → h ≡ noYearHead refusal → P)
+      → (InScope system year → h ≡ yearHeadIn (constantsOf system) (yearsElapsed (constantsOf system) year) → P)
+      → P
   unfolding yearHeadOf
-  found-is s = is ∙ sym (answered-year yearHeadIn noYearHead system year s)
+  by-head = by-answer (λ x. x .refusal) noYearHead (λ refusal. refl) yearHeadIn system year is
 
   pub head-refused : (h .refusal ≡ 0 → ⊥) → noOrdinalDay (h .refusal) ≡ ordinalDayOf system year ordinal
+  unfolding ordinalDayOf
   head-refused some =
-      by-scope system year
-      (λ no-system e. let r = refused-alike SYSTEM e (omega arith) in ap noOrdinalDay (r .0) ∙ r .1)
-      (λ s no-year e. let r = refused-alike YEAR e (omega arith) in ap noOrdinalDay (r .0) ∙ r .1)
-      (λ s. absurd (some (ap (λ x. x .refusal) (found-is s))))
+      by-head
+      (λ refusal e i here blank.
+      ap noOrdinalDay here ∙ sym (refused-year (ordinalDayIn ordinal) noOrdinalDay system year refusal e (i .at-least)))
+      (λ s found. absurd (some (ap (λ x. x .refusal) found)))
 
   module _ (z : h .refusal ≡ 0) where
     pub head-in-scope : InScope system year
-    head-in-scope =
-        by-scope system year
-        (λ no-system e. absurd (omega (arith, refused-alike SYSTEM e (omega arith))))
-        (λ s no-year e. absurd (omega (arith, refused-alike YEAR e (omega arith))))
-        (λ s. s)
+    head-in-scope = by-head (λ refusal e i here blank. absurd (omega (arith, i))) (λ s found. s)
 
     pub head-found : h .day ≡ registerHead (constantsOf system) (yearsElapsed (constantsOf system) year)
-    head-found = ap (λ x. x .day) (found-is head-in-scope)
+    head-found = by-head (λ refusal e i here blank. absurd (omega (arith, i))) (λ s found. ap (λ x. x .day) found)
 
     pub day-answered : {v : OrdinalDay} → v ≡ ordinalDayIn ordinal (constantsOf system) (yearsElapsed (constantsOf system) year)
         → v ≡ ordinalDayOf system year ordinal

@@ -28,8 +28,8 @@ pub(crate) fn none(refusal: u8) -> OrdinalDay
     }
 }
 
-// The day of a year with an ordinal, counted from the year's head. The last middle qi of its month tells whether it is the
-// year's, so that the next year's head is not reckoned.
+// The day of a year with an ordinal, counted from the year's head. The last middle qi of its month tells whether the year
+// has it, so that the next year's head is not reckoned.
 pub(crate) fn counted(c: Constants, year: u32, head: RegisterDay, ordinal: Ordinal) -> OrdinalDay
     requires { ⌜ YearInRegister c (yearsElapsed c year)
         × (head ≡ registerHead c (yearsElapsed c year))

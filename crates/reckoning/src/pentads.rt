@@ -22,8 +22,8 @@ pub(crate) fn none(refusal: u8) -> PentadInForce
     }
 }
 
-// The pentad in force at the end of a register day: the last on a day before the day after it. From the epoch
-// on its year tells whether the day is in scope.
+// The pentad in force at the end of a register day: the last on a day before the day after it. From the epoch on its year
+// tells whether the day is in scope.
 pub(crate) fn of_day(c: Constants, day: RegisterDay) -> PentadInForce
     requires { ⌜ ConstantsFit c ⌝ }
     ensures { λ r. ⌜ r ≡ inForceIn c (day .0) ⌝ }
