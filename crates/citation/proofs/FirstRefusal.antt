@@ -16,7 +16,8 @@ use Rattle.citation.specs.CitationRefusals.{TooShort, WrongKind, WrongLe
 use Rattle.citation.specs.Store.{judgeKind, judgeOf, refusalOf}
 use Rattle.citation.proofs.RowLaws.{first-unique, first-before, first-after}
 use Rattle.citation.proofs.JudgementCases.{kind-one, kind-two, kind-three, kind-four}
-use Rattle.citation.proofs.JudgementCases.{by-equal, by-length, too-short, wrong-kind, wrong-length, right-record}
+use Rattle.citation.proofs.JudgementCases.{by-equal}
+use Rattle.citation.proofs.WholeRecord.{by-length, too-short, wrong-kind, wrong-length, right-record}
 use Rattle.citation.proofs.JudgedByKind.{Judged, plainly-refused, day-judged, name-judged, ordinal-judged, register-day-judged}
 use Rattle.citation.proofs.Storing.{refusal-kept, refusal-output, refusal-none}
 
@@ -46,17 +47,17 @@ module _ (s : List ℕ) where
   pub judged : Judged (citationRows s) s (judgeOf s)
   judged =
       by-order (length s) 4
-      (λ h. plainly-refused SHORT (omega arith) (sym (too-short s h refl)) (inl (refl, h)))
+      (λ h. plainly-refused SHORT (omega arith) (sym (too-short s h)) (inl (refl, h)))
       (λ h.
       by-inside 1 4 (kindOf s)
-      (λ e out. plainly-refused KIND (omega arith) (sym (wrong-kind s refl h out refl)) (inr (λ v. omega arith, inl (refl, out))))
+      (λ e out. plainly-refused KIND (omega arith) (sym (wrong-kind s h out)) (inr (λ v. omega arith, inl (refl, out))))
       (λ e into.
       by-length s
       (λ l wrong.
-      plainly-refused LENGTH (omega arith) (sym (wrong-length s refl h into l refl))
+      plainly-refused LENGTH (omega arith) (sym (wrong-length s h into l))
       (inr (λ v. omega arith, inr (λ v. v into, inl (refl, wrong)))))
       (λ l right.
-      subst (Judged (citationRows s) s) (right-record s refl h into l refl)
+      subst (Judged (citationRows s) s) (right-record s h into l)
       (content-decides (judgeKind s) (λ v. omega arith) (λ v. v into) (λ v. v right) (kind-judged into)))))
 
 -- The judgement's number is that of the first row on its bytes that applies.

@@ -1,20 +1,16 @@
 -- The cases of each kind's judgement: refused by the reckoning, at a wrong place, or accepted.
 use Prim.Native.Nat.{ℕ, _+_, _-_, _≤_, _<_}
-use mathlib.Core.Path.{_≡_, refl, ap, ap₂, sym, subst, _∙_}
-use mathlib.Core.Bool.{Bool, true, false, true≢false, cond, _||_}
+use mathlib.Core.Path.{_≡_, refl, ap, ap₂, sym, _∙_}
+use mathlib.Core.Bool.{Bool, true, false, cond, _||_}
 use mathlib.Core.List.{List}
 use native.Mathlib.Decide.{ℕ-discrete}
 use native.Mathlib.Omega.{arith}
 use lib.ListN.{length}
-use Rattle.reckoning.proofs.RefusalCases.{inside, outside-of}
 use Rattle.calendar.specs.Inside.{Inside}
 use Rattle.calendar.proofs.Rising.{by-order}
-use Rattle.reckoning.specs.RefusalNumbers.{SHORT, KIND, LENGTH, DAY}
-use Rattle.citation.specs.Record.{lengthField, kindOf, systemOf, kindLength}
+use Rattle.reckoning.specs.RefusalNumbers.{DAY}
+use Rattle.citation.specs.Record.{kindOf, systemOf}
 use Rattle.citation.specs.Record.{yearField, monthField, leapField, dayField, nameField, ordinalField, registerDayField}
-use Rattle.citation.specs.JudgeParts.{Whole}
-use Rattle.citation.specs.CitationRefusals.{WrongLength}
-use lib.Dec.{eqb}
 use borrow.Author.Tests.{eq-eqb, ne-eqb, lt-ltb, le-ltb, le-leb, lt-leb}
 use Rattle.reckoning.specs.ComputedRefusals.{outside}
 use Rattle.reckoning.specs.declared.data.Month.{Month}
@@ -24,7 +20,7 @@ use Rattle.reckoning.specs.Requests.{ordinalDayOf, monthOf, dateOf}
 use Rattle.citation.specs.declared.judge.Judgement.{Judgement}
 use Rattle.citation.specs.Store.{refuseTelling, refuse, accept, unlessRefused, unlessWrong, judgeDate, judgeRegisterDay, judgeOrdinalDay}
 use Rattle.citation.specs.Store.{judgeOrdinal, judgeInMonth, judgeDay, judgeNameInMonth, judgeName, daysToName, nameWrong}
-use Rattle.citation.specs.Store.{lengthRight, judgeKind, judgeOf}
+use Rattle.citation.specs.Store.{judgeKind}
 
 pub by-equal : {P : Type 0} (m n : ℕ) → (m ≡ n → P) → ((m ≡ n → ⊥) → P) → P
 by-equal m n f g = elim (ℕ-discrete m n) [ yes e ↦ f e | no e ↦ g e ]
@@ -176,74 +172,3 @@ module _ (s : List ℕ) {j : Judgement} {system : ℕ} (system-is : system ≡ s
       by-order (kindOf s) 2
       (λ l. kind-one (omega (arith, k)) (e ∙ month-refused system year month leap (dayField s) m is some) year-is month-is leap-is refl)
       (λ l. kind-two (omega (arith, k)) (e ∙ name-month-refused system year month leap (nameField s) m is some) year-is month-is leap-is refl)
-
--- The length field, as read, against the length of the kind.
-module _ (s : List ℕ) {field size : ℕ} (field-is : field ≡ lengthField s) (size-is : size ≡ kindLength (kindOf s)) where
-  pub field-wrong : (field ≡ size → ⊥) → eqb field size ≡ lengthRight s
-  unfolding lengthRight
-  field-wrong h = simp (ne-eqb field size h, ne-eqb (lengthField s) (kindLength (kindOf s)) (λ e. h (field-is ∙ e ∙ sym size-is)))
-
-  pub field-right : field ≡ size → eqb (length s) size ≡ lengthRight s
-  unfolding lengthRight
-  field-right h =
-      let same = sym h ∙ field-is in
-      simp (same, eq-eqb (lengthField s) (kindLength (kindOf s)) (sym same ∙ size-is))
-
-module _ (s : List ℕ) where
-  -- A record's lengths are wrong or right.
-  pub by-length : {P : Type 0} → (lengthRight s ≡ false → WrongLength s → P)
-      → (lengthRight s ≡ true → (lengthField s ≡ kindLength (kindOf s)) × (length s ≡ lengthField s) → P)
-      → P
-  unfolding lengthRight
-  by-length wrong right =
-      by-equal (lengthField s) (kindLength (kindOf s))
-      (λ f.
-      by-equal (length s) (lengthField s)
-      (λ g. right (simp (eq-eqb (lengthField s) (kindLength (kindOf s)) f, eq-eqb (length s) (lengthField s) g)) (f, g))
-      (λ g.
-      wrong (simp (eq-eqb (lengthField s) (kindLength (kindOf s)) f, ne-eqb (length s) (lengthField s) g)) (λ p. g (p .1))))
-      (λ f. wrong (simp (ne-eqb (lengthField s) (kindLength (kindOf s)) f)) (λ p. f (p .0)))
-
-  right-length : lengthRight s ≡ true → length s ≡ kindLength (kindOf s)
-  right-length e = by-length (λ w none. absurd (true≢false (sym e ∙ w))) (λ r p. p .1 ∙ p .0)
-
--- The first three refusals, in their order, from what was read of the kind.
-module _ (s : List ℕ) {j : Judgement} where
-  pub too-short : length s < 4 → j ≡ refuse SHORT → j ≡ judgeOf s
-  unfolding judgeOf
-  too-short h e = e ∙ simp (lt-ltb (length s) 4 h)
-
-module _ (s : List ℕ) {kind : ℕ} (is-kind : kind ≡ kindOf s) (long : 4 ≤ length s) where
-  pub wrong-kind : {j : Judgement} → (Inside 1 4 kind → ⊥) → j ≡ refuse KIND → j ≡ judgeOf s
-  unfolding judgeOf
-  wrong-kind h e =
-      let out = outside-of 1 4 (kindOf s) (λ i. h (subst (Inside 1 4) (sym is-kind) i)) in
-      e ∙ simp (le-ltb (length s) 4 long, out)
-
-  kind-inside : Inside 1 4 kind → outside 1 4 (kindOf s) ≡ false
-  kind-inside i = inside 1 4 (kindOf s) (subst (Inside 1 4) is-kind i)
-
-  pub wrong-length : {j : Judgement} → Inside 1 4 kind → lengthRight s ≡ false → j ≡ refuse LENGTH → j ≡ judgeOf s
-  unfolding judgeOf
-  wrong-length i l e = e ∙ simp (le-ltb (length s) 4 long, kind-inside i, l)
-
-  pub right-record : {j : Judgement} → Inside 1 4 kind → lengthRight s ≡ true → j ≡ judgeKind s → j ≡ judgeOf s
-  unfolding judgeOf
-  right-record i l e = e ∙ simp (le-ltb (length s) 4 long, kind-inside i, l)
-
-  -- A record as long as its kind.
-  pub whole : Inside 1 4 kind → lengthRight s ≡ true → Whole s kind
-  whole i right =
-      let l = right-length s right ∙ ap kindLength (sym is-kind) in
-      record {
-        is-kind = is-kind;
-        one-to-four = i;
-        nine = by-order 2 kind (λ h. omega (arith, l ∙ nine-bytes h)) (λ h. omega (arith, l ∙ ten-bytes h));
-        ten = by-order 2 kind (λ h. omega (arith, l ∙ nine-bytes h)) (λ h. omega (arith, l ∙ ten-bytes h));
-      }
-    where
-      ten-bytes : kind ≤ 2 → kindLength kind ≡ 10
-      ten-bytes h = simp (le-leb kind 2 h)
-
-      nine-bytes : 2 < kind → kindLength kind ≡ 9
-      nine-bytes h = simp (lt-leb kind 2 h)

@@ -23,7 +23,7 @@ use Rattle.citation.specs.DayCited.{Dated, constantsIn, NamesDay, OnDate
 use Rattle.citation.specs.CitationRefusals.{Accepted, citationRows, WrongLength, WrongSystem, WrongYear, NotPlaced}
 use Rattle.citation.proofs.RowLaws.{none-applies}
 use Rattle.citation.proofs.JudgedByKind.{day-not-placed}
-use Rattle.citation.proofs.JudgementCases.{by-length}
+use Rattle.citation.proofs.WholeRecord.{by-length}
 use Rattle.citation.proofs.TenBytes.{elements, elements-all}
 
 -- What an accepted citation does not have.

@@ -1,6 +1,8 @@
 -- Proofs that serve several functions, and the theorems of the three demands.
 -- The cases of each kind's judgement.
 pub mod JudgementCases
+-- What is a whole record, and what is refused before.
+pub mod WholeRecord
 -- Ten bytes at the front of an output.
 pub mod TenBytes
 -- The three ways in which a storing ends.

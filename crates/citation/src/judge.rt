@@ -3,9 +3,8 @@ ghost use mathlib.Core.Path.{_≡_};
 ghost use Prim.Native.Nat.{_≤_, _<_, _^_};
 ghost use lib.ListN.{length};
 ghost use Rattle.citation.specs.Store.{refuseTelling, refuse, accept, judgeRegisterDay, judgeOrdinal, judgeDay, daysToName, judgeName};
-ghost use Rattle.citation.specs.Store.{lengthRight, judgeKind, judgeOf};
-ghost use Rattle.citation.specs.Record.{kindOf, kindLength};
-ghost use Rattle.citation.specs.JudgeParts.{Fields, Whole, Found};
+ghost use Rattle.citation.specs.Store.{judgeKind, judgeOf};
+ghost use Rattle.citation.specs.JudgeParts.{Fields, Whole, Found, isWhole, frameRefusal};
 use calendar::data::DayName;
 use calendar::data::Ordinal;
 use calendar::data::RegisterDay;
@@ -173,35 +172,43 @@ fn judge_kind(s: &[u8], kind: u32) -> Judgement
     judge_register_day(system, RegisterDay(le32(s[5], s[6], s[7], s[8])))
 }
 
-// Bytes in a record of a kind.
-fn kind_length(kind: u32) -> u32
-    ensures { λ r. ⌜ r ≡ kindLength kind ⌝ }
+// A whole record: its kind is 1 to 4, and the length field and the length of the input are those of the kind. Kinds 1 and
+// 2 have ten bytes, and 3 and 4 nine, so that a kind and twice its length make 21 or 22.
+fn is_whole(s: &[u8]) -> bool
+    ensures { λ r. ⌜ r ≡ isWhole (now (s .entry)) ⌝ }
 {
-    if kind <= 2 { 10 } else { 9 }
+    let length = s.len();
+    if length < 9 {
+        return false;
+    }
+    if 10 < length {
+        return false;
+    }
+    if le16(s[0], s[1]) as usize != length {
+        return false;
+    }
+    !outside(21, 22, le16(s[2], s[3]) + 2 * length as u32)
 }
 
-// The length field and the length of the input are those of the kind.
-fn length_right(s: &[u8], kind: u32) -> bool
-    requires { ⌜ (kind ≡ kindOf (now s)) × (4 ≤ length (now s)) ⌝ }
-    ensures { λ r. ⌜ r ≡ lengthRight (now (s .entry)) ⌝ }
+// The refusal of what is no whole record.
+fn frame_refusal(s: &[u8]) -> u8
+    ensures { λ r. ⌜ r ≡ frameRefusal (now (s .entry)) ⌝ }
 {
-    let length = kind_length(kind);
-    le16(s[0], s[1]) == length && s.len() == length as usize
+    if s.len() < 4 {
+        return SHORT;
+    }
+    if outside(1, 4, le16(s[2], s[3])) {
+        return KIND;
+    }
+    LENGTH
 }
 
-// Any bytes.
+// Any bytes. Whether a record is whole is tested first, and only of another what is wrong: most records are whole.
 pub fn judge(s: &[u8]) -> Judgement
     ensures { λ r. ⌜ r ≡ judgeOf (now (s .entry)) ⌝ }
 {
-    if s.len() < 4 {
-        return refuse(SHORT);
+    if is_whole(s) {
+        return judge_kind(s, le16(s[2], s[3]));
     }
-    let kind = le16(s[2], s[3]);
-    if outside(1, 4, kind) {
-        return refuse(KIND);
-    }
-    if length_right(s, kind) {
-        return judge_kind(s, kind);
-    }
-    refuse(LENGTH)
+    refuse(frame_refusal(s))
 }

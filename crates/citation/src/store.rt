@@ -56,10 +56,11 @@ pub extern "C" fn chiselbrow_store(input: &[u8], output: &mut [u8]) -> u64
     if refusal != 0 {
         return refused(refusal, j.told);
     }
-    if output.len() < 10 {
-        return OUTPUT as u64 * REFUSAL_UNIT;
+    // In this order no jump is taken where there is room.
+    if 10 <= output.len() {
+        let stored = j.stored;
+        put(output, stored);
+        return j.day.0 as u64;
     }
-    let stored = j.stored;
-    put(output, stored);
-    j.day.0 as u64
+    OUTPUT as u64 * REFUSAL_UNIT
 }

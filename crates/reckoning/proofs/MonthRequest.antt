@@ -35,10 +35,10 @@ module _ (c : Constants) (n number leap told : ℕ) where
   unfolding monthIn
   mark-wrong e f = simp (e, f)
 
-  pub ordinary-month : outside 1 12 number ≡ false → outside 0 1 leap ≡ false → leap ≡ 0
+  pub ordinary-month : outside 1 12 number ≡ false → leap ≡ 0
       → monthAt c (monthOfQi c (qiOfNumber n number)) ≡ monthIn c n number leap told
   unfolding monthIn
-  ordinary-month e f z =
+  ordinary-month e z =
       let same : monthOfQi c (qiOfNumber n number) ≡ monthOfQi c (qiOfNumber n number) + 0 = omega arith in
       subst (λ l. monthAt c (monthOfQi c (qiOfNumber n number)) ≡ monthIn c n number l told) (sym z)
       (ap (monthAt c) same ∙ simp e)

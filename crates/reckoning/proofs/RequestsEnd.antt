@@ -147,7 +147,7 @@ month-outcome system year number leap =
     let zero-mark : leap ≡ 0 = omega arith in
     found-month system year number leap (monthCited c n number 0) s number-inside mark-inside
     (subst (λ x. MonthNumbered c n number x (monthCited c n number 0)) (sym zero-mark) (ordinary-cited c ok n number number-inside))
-    (ap (monthAt c) (omega arith) ∙ ordinary-month c n number leap told e f zero-mark ∙ answer s))
+    (ap (monthAt c) (omega arith) ∙ ordinary-month c n number leap told e zero-mark ∙ answer s))
     (λ l.
     let one : leap ≡ 1 = omega arith in
     by-bool (leapFollows c n number)

@@ -106,13 +106,14 @@ fn month_of_year(c: Constants, n: u64, number: u32, leap: u32) -> Month
     if outside(1, 12, number) {
         return none(MONTH);
     }
-    if outside(0, 1, leap) {
-        return none(MONTH);
-    }
     let g = 12 * n + (number as u64 + 1) % 12;
     let m = of_qi(c, g);
     if leap == 0 {
         return at(c, m);
+    }
+    // Marks are nearly all 0, so that only another is tested.
+    if outside(0, 1, leap) {
+        return none(MONTH);
     }
     let next = after(c, m);
     // Not leap: it holds the next middle qi.

@@ -12,7 +12,7 @@ use Rattle.citation.proofs.store.chiselbrow_store.Tie as tie
 abbrev start : tie.After-judge → tie.Start
 start c = c .before .before .before
 
-abbrev room : tie.After-put → tie.Else2
+abbrev room : tie.After-put → tie.Then2
 room c = c .before .before .before
 
 judge-requires : tie.Need-judge-requires
@@ -33,42 +33,42 @@ returns c =
       output-refused _ _ (then .if1 .taken) output r,
     )
 
-cast-result : tie.Need-cast-result
-cast-result c = search needs
-
-mul-result : tie.Need-mul-result
-mul-result c = search needs
-
-returns-2 : tie.Need-returns-2
-returns-2 c =
-    let accepted = c .before in
-    let judged = accepted .before in
-    let output = start judged .args .output .now in
-    let j = judged .judge .ensures in
-    let r = refusal-output _ _ _ j (accepted .if1 .left) (c .if2 .taken) in
-    let nothing = nothing-told _ j (λ e. omega (arith, accepted .if1 .left)) in
-    (answer-refused _ OUTPUT (λ z. omega arith) _ 0 r nothing, output-refused _ OUTPUT (λ z. omega arith) output r)
-
 put-requires : tie.Need-put-requires
 put-requires c κs = search needs
 
-cast-result-2 : tie.Need-cast-result-2
-cast-result-2 c = search needs
+cast-result : tie.Need-cast-result
+cast-result c = search needs
 
 same-length : tie.Need-same-length
 same-length c = search needs
 
-returns-3 : tie.Need-returns-3
-returns-3 c =
+returns-2 : tie.Need-returns-2
+returns-2 c =
     let put = c .before .before .before in
     let room = room put in
     let accepted = room .before in
     let judged = accepted .before in
     let output = start judged .args .output .now in
     let j = judged .judge .ensures in
-    let r = refusal-none _ _ _ j (accepted .if1 .left) (room .if2 .left) in
+    let r = refusal-none _ _ _ j (accepted .if1 .left) (room .if2 .taken) in
     let nothing = nothing-told _ j (λ e. omega (arith, accepted .if1 .left)) in
     (answer-accepted _ _ j _ r nothing, put .put .ensures ∙ output-accepted _ _ j output r)
+
+cast-result-2 : tie.Need-cast-result-2
+cast-result-2 c = search needs
+
+mul-result : tie.Need-mul-result
+mul-result c = search needs
+
+returns-3 : tie.Need-returns-3
+returns-3 c =
+    let accepted = c .before in
+    let judged = accepted .before in
+    let output = start judged .args .output .now in
+    let j = judged .judge .ensures in
+    let r = refusal-output _ _ _ j (accepted .if1 .left) (c .if2 .left) in
+    let nothing = nothing-told _ j (λ e. omega (arith, accepted .if1 .left)) in
+    (answer-refused _ OUTPUT (λ z. omega arith) _ 0 r nothing, output-refused _ OUTPUT (λ z. omega arith) output r)
 
 pub chiselbrow-store-spec : {M : Type 1} → statement M
 chiselbrow-store-spec =
@@ -77,10 +77,10 @@ chiselbrow-store-spec =
     judge-requires
     refused-requires
     returns
-    cast-result
-    mul-result
-    returns-2
     put-requires
-    cast-result-2
+    cast-result
     same-length
+    returns-2
+    cast-result-2
+    mul-result
     returns-3)
