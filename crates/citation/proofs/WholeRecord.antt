@@ -1,6 +1,6 @@
 -- What is a whole record, and what is refused before a record is read.
 use Prim.Native.Nat.{ℕ, _+_, _*_, _≤_, _<_}
-use mathlib.Core.Path.{_≡_, refl, ap, sym, _∙_}
+use mathlib.Core.Path.{_≡_, refl, sym, _∙_}
 use mathlib.Core.Bool.{true, false, true≢false, not}
 use mathlib.Core.List.{List}
 use native.Mathlib.Omega.{arith}
@@ -14,7 +14,7 @@ use Rattle.reckoning.proofs.RefusalCases.{inside, outside-of, by-inside}
 use Rattle.citation.specs.Record.{lengthField, kindOf, kindLength}
 use Rattle.citation.specs.CitationRefusals.{WrongLength}
 use Rattle.citation.specs.Store.{refuse, lengthRight, judgeKind, judgeOf}
-use Rattle.citation.specs.JudgeParts.{Whole, isWhole, frameRefusal}
+use Rattle.citation.specs.JudgeParts.{Whole, isWhole}
 use Rattle.citation.proofs.JudgementCases.{by-equal}
 
 -- A kind has ten bytes or nine.
@@ -77,6 +77,11 @@ module _ (s : List ℕ) where
       (by-kind (kindOf s) (λ l ten. omega arith) (λ l nine. omega arith))
       g))
 
+  -- One of a kind that there is lacks only the length.
+  pub length-wrong : isWhole s ≡ false → Inside 1 4 (kindOf s) → lengthRight s ≡ false
+  length-wrong other i =
+      by-length (λ l wrong. l) (λ l right. absurd (true≢false (is-whole i (right .0) (right .1) ∙ other)))
+
   module _ (whole : isWhole s ≡ true) where
     kind-and-lengths : Inside 1 4 (kindOf s) × (lengthRight s ≡ true) × (length s ≡ kindLength (kindOf s))
     kind-and-lengths =
@@ -118,21 +123,9 @@ module _ (s : List ℕ) where
       unfolding judgeOf
       right-record l = simp (le-ltb (length s) 4 long, inside 1 4 (kindOf s) i, l)
 
-  -- So a whole record is judged by its kind, and what is none is refused by one of them.
+  -- So a whole record is judged by its kind.
   pub whole-judged : isWhole s ≡ true → judgeKind s ≡ judgeOf s
   whole-judged whole =
       let known = kind-and-lengths s whole in
       let nine = whole-record s whole .nine in
       right-record (omega arith) (known .0) (known .1)
-
-  pub frame-refused : isWhole s ≡ false → refuse (frameRefusal s) ≡ judgeOf s
-  frame-refused not-whole =
-      by-order (length s) 4
-      (λ h. ap refuse (simp (lt-ltb (length s) 4 h)) ∙ too-short h)
-      (λ h.
-      by-inside 1 4 (kindOf s)
-      (λ e out. ap refuse (simp (le-ltb (length s) 4 h, e)) ∙ wrong-kind h out)
-      (λ e into.
-      by-length s
-      (λ l wrong. ap refuse (simp (le-ltb (length s) 4 h, e)) ∙ wrong-length h into l)
-      (λ l right. absurd (true≢false (is-whole s into (right .0) (right .1) ∙ not-whole)))))

@@ -1,14 +1,12 @@
--- What the parts of the judgement are handed.
+-- What the parts of the judgement are handed, and what they tell.
 use Prim.Native.Nat.{ℕ, _+_, _-_, _≤_, _<_}
 use mathlib.Core.Path.{_≡_}
-use mathlib.Core.Bool.{Bool, cond, not, _&&_}
+use mathlib.Core.Bool.{Bool, not, _&&_}
 use mathlib.Core.List.{List}
-use lib.Dec.{ltb}
 use lib.ListN.{length}
 use Rattle.calendar.specs.Inside.{Inside}
 use Rattle.reckoning.specs.declared.data.Month.{Month}
 use Rattle.reckoning.specs.ComputedRefusals.{outside}
-use Rattle.reckoning.specs.RefusalNumbers.{SHORT, KIND, LENGTH}
 use Rattle.reckoning.specs.Requests.{monthOf}
 use Rattle.citation.specs.Record.{kindOf}
 use Rattle.citation.specs.Store.{lengthRight}
@@ -16,10 +14,6 @@ use Rattle.citation.specs.Store.{lengthRight}
 -- A whole record: of a kind that there is, and as long as that.
 abbrev pub isWhole : List ℕ → Bool
 isWhole s = not (outside 1 4 (kindOf s)) && lengthRight s
-
--- What is refused where the record is not whole.
-abbrev pub frameRefusal : List ℕ → ℕ
-frameRefusal s = cond (ltb (length s) 4) SHORT (cond (outside 1 4 (kindOf s)) KIND LENGTH)
 
 -- Numbers that fit the fields of a kind 1 record.
 pub record Fields (system year month leap day : ℕ) : Type 0 where

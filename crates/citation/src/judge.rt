@@ -1,10 +1,11 @@
 // The judgement of a citation: its refusal, or the day that it names and its stored record.
 ghost use mathlib.Core.Path.{_≡_};
+ghost use mathlib.Core.Bool.{false};
 ghost use Prim.Native.Nat.{_≤_, _<_, _^_};
 ghost use lib.ListN.{length};
 ghost use Rattle.citation.specs.Store.{refuseTelling, refuse, accept, judgeRegisterDay, judgeOrdinal, judgeDay, daysToName, judgeName};
 ghost use Rattle.citation.specs.Store.{judgeKind, judgeOf};
-ghost use Rattle.citation.specs.JudgeParts.{Fields, Whole, Found, isWhole, frameRefusal};
+ghost use Rattle.citation.specs.JudgeParts.{Fields, Whole, Found, isWhole};
 use calendar::data::DayName;
 use calendar::data::Ordinal;
 use calendar::data::RegisterDay;
@@ -190,17 +191,18 @@ fn is_whole(s: &[u8]) -> bool
     !outside(21, 22, le16(s[2], s[3]) + 2 * length as u32)
 }
 
-// The refusal of what is no whole record.
-fn frame_refusal(s: &[u8]) -> u8
-    ensures { λ r. ⌜ r ≡ frameRefusal (now (s .entry)) ⌝ }
+// What is no whole record is refused, in the order of the table.
+fn refuse_frame(s: &[u8]) -> Judgement
+    requires { ⌜ isWhole (now s) ≡ false ⌝ }
+    ensures { λ r. ⌜ r ≡ judgeOf (now (s .entry)) ⌝ }
 {
     if s.len() < 4 {
-        return SHORT;
+        return refuse(SHORT);
     }
     if outside(1, 4, le16(s[2], s[3])) {
-        return KIND;
+        return refuse(KIND);
     }
-    LENGTH
+    refuse(LENGTH)
 }
 
 // Any bytes. Whether a record is whole is tested first, and only of another what is wrong: most records are whole.
@@ -210,5 +212,5 @@ pub fn judge(s: &[u8]) -> Judgement
     if is_whole(s) {
         return judge_kind(s, le16(s[2], s[3]));
     }
-    refuse(frame_refusal(s))
+    refuse_frame(s)
 }

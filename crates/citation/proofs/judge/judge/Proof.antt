@@ -1,18 +1,21 @@
-use mathlib.Core.Path.{subst, sym, ap, _∙_}
+use mathlib.Core.Path.{_≡_, subst, sym, _∙_}
+use mathlib.Core.Bool.{true}
 use native.Mathlib.Omega.{arith}
 use Rattle.citation.specs.Record.{kindOf}
-use Rattle.citation.specs.JudgeParts.{Whole}
-use Rattle.citation.specs.Store.{refuse}
-use Rattle.citation.proofs.WholeRecord.{whole-record, whole-judged, frame-refused}
+use Rattle.citation.specs.JudgeParts.{Whole, isWhole}
+use Rattle.citation.proofs.WholeRecord.{whole-record, whole-judged}
 use borrow.Author.Needs.{needs}
 use Rattle.citation.proofs.judge.judge.Statement.{statement}
 use Rattle.citation.proofs.judge.judge.Tie as tie
 
-abbrev start : tie.After-is-whole → tie.Start
-start c = c .before .before
+abbrev start : tie.Then1 → tie.Start
+start c = c .before .before .before
 
-known : (c : tie.Then1) → let s = start (c .before) .args .s .now in Whole s (kindOf s)
-known c = whole-record _ (sym (c .before .is-whole .ensures) ∙ c .if1 .taken)
+passed : (c : tie.Then1) → isWhole (start c .args .s .now) ≡ true
+passed c = sym (c .before .is-whole .ensures) ∙ c .if1 .taken
+
+known : (c : tie.Then1) → let s = start c .args .s .now in Whole s (kindOf s)
+known c = whole-record _ (passed c)
 
 is-whole-requires : tie.Need-is-whole-requires
 is-whole-requires c κs = search needs
@@ -30,22 +33,13 @@ judge-kind-requires : tie.Need-judge-kind-requires
 judge-kind-requires c κs = subst (Whole _) (sym (c .le16 .ensures .0)) (known (c .before .before .before))
 
 returns : tie.Need-returns
-returns c =
-    let whole = c .before .before .before .before in
-    c .judge-kind .ensures ∙ whole-judged _ (sym (whole .before .is-whole .ensures) ∙ whole .if1 .taken)
+returns c = c .judge-kind .ensures ∙ whole-judged _ (passed (c .before .before .before .before))
 
-frame-refusal-requires : tie.Need-frame-refusal-requires
-frame-refusal-requires c κs = search needs
-
-refuse-requires : tie.Need-refuse-requires
-refuse-requires c κs = search needs
+refuse-frame-requires : tie.Need-refuse-frame-requires
+refuse-frame-requires c κs = sym (c .before .is-whole .ensures) ∙ c .if1 .left
 
 returns-2 : tie.Need-returns-2
-returns-2 c =
-    let other = c .before .before in
-    c .refuse .ensures
-    ∙ ap refuse (c .before .frame-refusal .ensures)
-    ∙ frame-refused _ (sym (other .before .is-whole .ensures) ∙ other .if1 .left)
+returns-2 c = c .refuse-frame .ensures
 
 pub judge-spec : {M : Type 1} → statement M
 judge-spec =
@@ -57,6 +51,5 @@ judge-spec =
     le16-requires
     judge-kind-requires
     returns
-    frame-refusal-requires
-    refuse-requires
+    refuse-frame-requires
     returns-2)
