@@ -45,15 +45,15 @@ module _ (s : List ℕ) where
 
 -- A conversion's own refusal stands, then that of its output.
 module _ (s : List ℕ) (room : ℕ) where
-  refusal-kept : (conversionRefusal s ≡ 0 → ⊥) → refusalInto s room ≡ conversionRefusal s
+  pub refusal-kept : (conversionRefusal s ≡ 0 → ⊥) → refusalInto s room ≡ conversionRefusal s
   unfolding refusalInto
   refusal-kept some = simp (ne-eqb (conversionRefusal s) 0 some)
 
-  refusal-output : conversionRefusal s ≡ 0 → room < 10 → refusalInto s room ≡ OUTPUT
+  pub refusal-output : conversionRefusal s ≡ 0 → room < 10 → refusalInto s room ≡ OUTPUT
   unfolding refusalInto
   refusal-output z h = simp (eq-eqb (conversionRefusal s) 0 z, lt-ltb room 10 h)
 
-  refusal-none : conversionRefusal s ≡ 0 → 10 ≤ room → refusalInto s room ≡ 0
+  pub refusal-none : conversionRefusal s ≡ 0 → 10 ≤ room → refusalInto s room ≡ 0
   unfolding refusalInto
   refusal-none z h = simp (eq-eqb (conversionRefusal s) 0 z, le-ltb room 10 h)
 
