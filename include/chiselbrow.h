@@ -167,9 +167,9 @@
  *     0A 00 02 00 01 46 04 05 00 25    kind 2, name 37: refused 11
  *     0A 00 05 00 01 46 04 05 00 26    kind 5, name 38: day 2120808
  *
- * chiselbrow_convert makes the second of the first, one record at a call. For
- * a file of records, of any kinds and one directly after another, there is the
- * program chiselbrow-renew:
+ * chiselbrow_convert makes the second out of the first, one record at a call.
+ * For a file of records, of any kinds and one directly after another, there is
+ * the program chiselbrow-renew:
  *
  *     chiselbrow-renew < old > new
  *
@@ -203,7 +203,7 @@
  * with a header of 1.x cites by name in kind 2, which is refused now, and so
  * has to be built anew; OLD RECORDS, above, tells what else it has to see to.
  * The calendars are those of 1.2, and what 1.2 stored stands as it is. So does
- * what 1.1 stored, to which 1.2 only added Jingchu. */
+ * what 1.1 stored, since 1.2 only added Jingchu. */
 #define CHISELBROW_VERSION "2.0.0"
 
 #ifdef __cplusplus
@@ -439,7 +439,7 @@ chiselbrow_read_date(const uint8_t *record, size_t record_len,
  * Converted: the first ten output bytes become those of the input, but for the
  * kind, byte 2, which is 5, and the name, byte 9, which is one higher; any
  * bytes after them stay as they were. What the output held before makes no
- * difference. Array and size are what chiselbrow_store takes.
+ * difference. The ten bytes are a citation that chiselbrow_store takes.
  *
  * Refused: no byte of the output changes. The first that holds is the one told,
  * in this order:
