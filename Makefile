@@ -101,8 +101,9 @@ build/lib%.a: $(crates) | build
 	@rt staticlib $* < /dev/null > build/$*.log 2>&1 || { cat build/$*.log >&2; exit 1; }
 	@cp target/staticlib/lib$*.a $@
 
-$(library): build/libconversion.a
-	cp $< $@
+# The storing step and the conversion, each an object.
+$(library): build/libcitation.a build/libconversion.a
+	cd build && ar x libcitation.a && ar x libconversion.a && ar rcs $(notdir $@) citation.o conversion.o
 
 # It needs no other library, and exports what the list says. The links are those that install makes.
 $(shared): $(library) chiselbrow.map include/chiselbrow.h
