@@ -2,13 +2,13 @@
 //! rules, found by plain searching, to be compared with the library.
 
 mod almanac;
+mod by_name;
 mod cases;
 mod citation;
 mod compare;
 mod conversion;
 mod heads;
 mod lines;
-mod old_records;
 mod pentads;
 mod random;
 mod reckoning;
@@ -37,7 +37,7 @@ const USAGE: &str = "usage:
   independent outside SYSTEM
   independent random SEED COUNT
   independent stream SEED COUNT
-  independent retired
+  independent names
   independent conversions
   independent old-days SYSTEM
   independent old-random SEED COUNT
@@ -68,9 +68,9 @@ fn main() {
         ["outside", system] => streams::outside(&table(system), &mut out),
         ["random", seed, count] => random(word(seed), word(count), &mut out),
         ["stream", seed, count] => stream(streams::stream, word(seed), word(count), &mut out),
-        ["retired"] => old_records::retired(&mut out),
-        ["conversions"] => old_records::conversions(&Tables::new(), &mut out),
-        ["old-days", system] => old_records::days(&table(system), &mut out),
+        ["names"] => by_name::names(&Tables::new(), &mut out),
+        ["conversions"] => by_name::conversions(&Tables::new(), &mut out),
+        ["old-days", system] => by_name::days(&table(system), &mut out),
         ["old-random", seed, count] => old_random(word(seed), word(count), &mut out),
         ["old-stream", seed, count] => stream(streams::old_stream, word(seed), word(count), &mut out),
         ["former"] => renewal::former_lines(&Tables::new(), &records(), &mut out),
@@ -148,9 +148,9 @@ fn random(seed: u64, count: u64, out: &mut impl Write) -> io::Result<()> {
 
 fn old_random(seed: u64, count: u64, out: &mut impl Write) -> io::Result<()> {
     eprintln!("independent: random seed {}", seed);
-    let [converted, stored] = old_records::random(&Tables::new(), seed, count, out)?;
-    let all = tell_tally(&converted, &old_records::ANSWERS);
-    let then_all = tell_tally(&stored, &old_records::THEN_ANSWERS);
+    let [converted, stored] = by_name::random(&Tables::new(), seed, count, out)?;
+    let all = tell_tally(&converted, &by_name::ANSWERS);
+    let then_all = tell_tally(&stored, &by_name::THEN_ANSWERS);
     enough(all && then_all, count, out)
 }
 

@@ -1,12 +1,13 @@
-//! Streams of cases for the conversion of records of the retired kind.
+//! Streams of cases with names: for the storing step, and for the conversion of
+//! records of the retired kind.
 //!
-//! A frame is: input length (1 byte), the input, output length (1 byte) and the
+//! A frame for the conversion is: input length (1 byte), the input, output length (1 byte) and the
 //! expected answer (8 bytes, little-endian). Where the input is converted there
 //! follow the expected ten bytes; then the output length (1 byte) with which
 //! these are to be stored, the expected answer (8 bytes) and, where that
 //! accepts them, the expected ten bytes.
 
-use crate::citation::{answer, Refusal, Stored};
+use crate::citation::{answer, store, Refusal, Stored};
 use crate::conversion::{convert, formerly_stored};
 use crate::random::Random;
 use crate::reckoning::{Table, Tables};
@@ -48,24 +49,25 @@ impl Case {
     }
 }
 
-/// Records of the retired kind with every byte for a name: in years that are
-/// met elsewhere in these tests, in every system, month and leap mark; and with
-/// any of system, year, month and leap byte wrong, several at once among them.
-fn spread() -> Vec<Vec<u8>> {
+/// Records of kind 5 or of the retired one with every byte for a name: in years
+/// that are met elsewhere in these tests, in every system, month and leap mark;
+/// and with any of system, year, month and leap byte wrong, several at once
+/// among them.
+fn spread(kind: u8) -> Vec<Vec<u8>> {
     let years = [1, 2, 237, 238, 1092, 1094, 1107, 1108, 3000];
     let months: Vec<u8> = (1..=12).collect();
-    let mut records = combined(&[1, 2, 3], &years, &months, &[0, 1]);
+    let mut records = combined(kind, &[1, 2, 3], &years, &months, &[0, 1]);
     let (systems, years) = ([0, 1, 2, 3, 4, 255], [0, 1, 1094, 3000, 3001, 65_535]);
-    records.extend(combined(&systems, &years, &[0, 1, 5, 12, 13, 255], &[0, 1, 2, 255]));
+    records.extend(combined(kind, &systems, &years, &[0, 1, 5, 12, 13, 255], &[0, 1, 2, 255]));
     records
 }
 
-fn combined(systems: &[u8], years: &[u16], months: &[u8], leaps: &[u8]) -> Vec<Vec<u8>> {
+fn combined(kind: u8, systems: &[u8], years: &[u16], months: &[u8], leaps: &[u8]) -> Vec<Vec<u8>> {
     let mut records = Vec::new();
     for system in systems {
         for [low, high] in years.iter().map(|year| year.to_le_bytes()) {
             for (month, leap) in months.iter().flat_map(|m| leaps.iter().map(move |leap| (m, leap))) {
-                let record = |name| vec![10, 0, 2, 0, *system, low, high, *month, *leap, name];
+                let record = |name| vec![10, 0, kind, 0, *system, low, high, *month, *leap, name];
                 records.extend((0..=255).map(record));
             }
         }
@@ -98,7 +100,7 @@ const ROOMS: [usize; 6] = [0, 1, 9, 10, 11, 64];
 /// The conversion of all of these: the spread with room for the conversion, and
 /// also for the storing or not; the mixed with every output length.
 pub fn conversions(tables: &Tables, out: &mut impl Write) -> io::Result<()> {
-    for (i, record) in spread().into_iter().enumerate() {
+    for (i, record) in spread(2).into_iter().enumerate() {
         let room = [10, 11, 64][i % 3];
         Case::of(tables, record.clone(), room, 10).write(out)?;
         Case::of(tables, record, room, ROOMS[i % ROOMS.len()]).write(out)?;
@@ -111,12 +113,15 @@ pub fn conversions(tables: &Tables, out: &mut impl Write) -> io::Result<()> {
     Ok(())
 }
 
-/// The storing step on the same, and on old records of any length: frames as
-/// of citations. What is expected is told by the kind alone.
-pub fn retired(out: &mut impl Write) -> io::Result<()> {
-    let whole = spread().into_iter().enumerate().map(|(i, record)| (record, ROOMS[i % ROOMS.len()]));
-    for (record, room) in whole {
-        frame(out, &record, room, &Err(Refusal::plain(11)))?;
+/// The storing step on the spread in both kinds, with room and without, and on
+/// old records of any length: frames as of citations. Of the retired kind, what
+/// is expected is told by the kind alone.
+pub fn names(tables: &Tables, out: &mut impl Write) -> io::Result<()> {
+    for (i, (record, old)) in spread(5).into_iter().zip(spread(2)).enumerate() {
+        for room in [10, ROOMS[i % ROOMS.len()]] {
+            frame(out, &record, room, &store(tables, &record, room))?;
+            frame(out, &old, room, &Err(Refusal::plain(11)))?;
+        }
     }
     let record = [10, 0, 2, 0, 1, 0x46, 0x04, 5, 0, 37];
     for length in 0..=64 {
