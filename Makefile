@@ -23,9 +23,9 @@ test_tools = build/independent build/store_check build/convert_check build/null_
 bench_tools = build/bench build/bench_heads build/c_program build/c_compare build/c_pentads
 # The longest first, so that two at a time end together.
 tests = tests/mixups.sh tests/program.sh tests/every_day.sh tests/convert.sh tests/renew.sh tests/every_year.sh \
-        tests/pipes.sh tests/damaged.sh tests/every_comparison.sh tests/every_pentad.sh tests/faults.sh tests/cases.sh tests/descriptors.sh \
-        tests/arguments.sh tests/manual.sh tests/install.sh tests/shared.sh tests/shared.py tests/header.sh \
-        tests/host.sh tests/printed_heads.sh build/null_check build/builders build/incident
+        tests/pipes.sh tests/damaged.sh tests/every_comparison.sh tests/every_pentad.sh tests/faults.sh tests/cases.sh \
+        tests/descriptors.sh tests/arguments.sh tests/manual.sh tests/install.sh tests/shared.sh tests/shared.py \
+        tests/header.sh tests/host.sh tests/printed_heads.sh build/null_check build/builders build/incident
 crates := crates.txt $(shell find crates -name must-fail -prune -o -type f -print)
 
 # Two runs of rt at a time would share target/.

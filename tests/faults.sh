@@ -43,8 +43,8 @@ failed() {
     told "$1" 1 "$scratch/expected" "${before:+$before$'\n'}$program: $2"
 }
 
-# After a failed read: what is due for the records that were whole before it. Chiselbrow has a line for each of them, and
-# chiselbrow-renew their bytes; it may have copied others that were read, if they are no record or not all of one.
+# After a failed read: what is due for the records that were whole before it. Chiselbrow has a line for each of them,
+# and chiselbrow-renew their bytes; it may have copied others that were read, if they are no record or not all of one.
 read_failed() {
     local bytes=0 records=0 moved end size
     for moved in "${reads[@]}"; do

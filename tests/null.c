@@ -36,7 +36,7 @@ static void check_convert(void)
 {
     static const uint8_t old[] = {0x0A, 0, 2, 0, 1, 0x46, 0x04, 5, 0, 37};
     static const uint8_t no_name[] = {0x0A, 0, 2, 0, 1, 0x46, 0x04, 5, 0, 60};
-    static const uint8_t short_one[] = {0x09, 0, 2, 0, 1, 0x46, 0x04, 5, 0};
+    static const uint8_t short_one[] = {0x09, 0, CHISELBROW_KIND_RETIRED, 0, 1, 0x46, 0x04, 5, 0};
     uint8_t turned[CHISELBROW_NAME_SIZE];
     uint8_t output[12], before[12];
 

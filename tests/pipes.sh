@@ -1,7 +1,7 @@
 #!/usr/bin/env bash
-# The programs that read records in a pipe: the input may come in any pieces, they answer before they wait, chiselbrow
-# ends at what is no record and chiselbrow-renew copies on from there, both end when nobody reads on, and a longer stream
-# takes no more memory. SEED=N repeats a run.
+# The programs that read records, in a pipe: the input may come in any pieces, they answer before they wait, chiselbrow
+# ends at what is no record and chiselbrow-renew copies on from there, both end when nobody reads on, and a longer
+# stream takes no more memory. SEED=N repeats a run.
 set -euo pipefail
 cd "$(dirname "$0")/.."
 seed=${SEED:-$(date +%s)}
@@ -154,13 +154,15 @@ status=${PIPESTATUS[1]}
 told 'a long stream' 1 <(printf '%s\n' "10800000 $line" '1 refused 1') "chiselbrow: $no_record 102600000"
 
 # The same renewed; and where the first two bytes cannot begin a record, copied.
-long_and_stray old-many | bounded chiselbrow-renew | cmp - <(long_and_stray many) > "$scratch/out"
-ends=("${PIPESTATUS[@]}") status=${ends[1]}
-told 'a long old stream' 1 /dev/null "chiselbrow-renew: $no_record 102600000"
-[ "${ends[2]}" = 0 ] || fail 'a long old stream: other bytes'
-{ printf '\0\0' && long old-many; } | bounded chiselbrow-renew | cmp - <(printf '\0\0' && long old-many) > "$scratch/out"
-ends=("${PIPESTATUS[@]}") status=${ends[1]}
-told 'a long stream of no records' 1 /dev/null "chiselbrow-renew: $no_record 0"
-[ "${ends[2]}" = 0 ] || fail 'a long stream of no records: other bytes'
+no_records() { printf '\0\0' && long old-many; }
+renewed_to() {
+    local new=$1 old=$2 line=$3 ends
+    $old | bounded chiselbrow-renew | cmp - <($new) > "$scratch/out"
+    ends=("${PIPESTATUS[@]}") status=${ends[1]}
+    told "$old" 1 /dev/null "$line"
+    [ "${ends[2]}" = 0 ] || fail "$old: other bytes"
+}
+renewed_to 'long_and_stray many' 'long_and_stray old-many' "chiselbrow-renew: $no_record 102600000"
+renewed_to no_records no_records "chiselbrow-renew: $no_record 0"
 
 echo "pipes: any pieces, prompt answers, a prompt end, little memory (seed $seed)"

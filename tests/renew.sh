@@ -44,8 +44,8 @@ bytes <<< '0A 00 05 00 01 46 04 05 00 26' > "$scratch/due"
 renewed 'one record' "$scratch/old" "$scratch/due" ''
 
 # Of the retired kind only the length and the name are judged: names 37, 59 and 0, a system, year, month and leap byte
-# that there are not, a month that is not leap; names 60 and 255, and 9, 4 and 11 bytes. Other kinds are left alone, also
-# kind 258, whose low byte is that of the retired one.
+# that there are not, a month that is not leap; names 60 and 255, and 9, 4 and 11 bytes. Other kinds are left alone,
+# also kind 258, whose low byte is that of the retired one.
 bytes > "$scratch/old" << 'END'
 0A 00 01 00 01 46 04 05 00 01
 0A 00 02 00 01 46 04 05 00 25
@@ -166,19 +166,17 @@ for length in 40 41; do
     renewed "a length field of 0x$length" "$scratch/old" "$scratch/due" "$line"
 done
 
-# An old record before, across and after the end of one, two and three times 65536 bytes: records of 8 bytes up to
-# shortly before it, one of 4 to 44, the old one, and then a record that is cut.
-many 1
+# Two old records before, across and after the end of one, two and three times 65536 bytes: records of 8 bytes up to
+# shortly before it, one of 4 to 44, the old ones, and then a record that is cut.
+many 2
 for buffers in 1 2 3; do
     before=$((buffers * 65536 - 32))
     times $((before / 8)) '08 00 00 00 00 00 00 00' > "$scratch/before"
     for length in {4..44}; do
-        { cat "$scratch/before" && printf "\\x$(printf %x "$length")" && head -c $((length - 1)) /dev/zero; } > "$scratch/old"
-        cp "$scratch/old" "$scratch/due"
-        cat "$scratch/many" "$scratch/many" >> "$scratch/old"
-        cat "$scratch/many-due" "$scratch/many-due" >> "$scratch/due"
-        printf '\x40' | tee -a "$scratch/old" >> "$scratch/due"
-        renewed "$length bytes and an old record" "$scratch/old" "$scratch/due" \
+        { printf %02x "$length" | bytes && head -c $((length - 1)) /dev/zero; } > "$scratch/filler"
+        cat "$scratch/before" "$scratch/filler" "$scratch/many" <(printf '\x40') > "$scratch/old"
+        cat "$scratch/before" "$scratch/filler" "$scratch/many-due" <(printf '\x40') > "$scratch/due"
+        renewed "$((before + length)) bytes and two old records" "$scratch/old" "$scratch/due" \
             "$said no record at byte $((before + length + 20))"
     done
 done
@@ -216,5 +214,5 @@ for i in 1 2 "$seed"; do
     cmp "$scratch/came" "$scratch/cut-due" || fail "other bytes for stream $i cut"
     cmp "$scratch/came-told" "$scratch/cut-due-told" || fail "something else is told of stream $i cut"
 done
-echo "renew: the same bytes for 11 streams, for 3 cut at every length to 300 and for 123 at the end of a buffer, and the" \
-    "lines that they had (seed $seed)"
+echo "renew: the same bytes for 11 streams, for 3 cut at every length to 300 and for 123 at the end of a buffer, and" \
+    "the lines that they had (seed $seed)"
