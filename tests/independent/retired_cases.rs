@@ -218,8 +218,8 @@ pub fn every_old_day(tables: &Tables, table: &Table, checks: &mut Checks) {
     for (place, day) in table.places.iter().zip(table.first_day..) {
         let old = citation_of(system, 2, *place, day);
         let due = Ok(stored_at(system, *place, day));
-        let turned = convert(&old, 10).unwrap();
-        checks.that(formerly_stored(tables, &old, 10) == due && store(tables, &turned, 10) == due, || {
+        let turned = convert(&old, 10).and_then(|turned| store(tables, &turned, 10));
+        checks.that(formerly_stored(tables, &old, 10) == due && turned == due, || {
             format!("system {}, day {} by its old name", system, day)
         });
     }
