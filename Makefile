@@ -18,13 +18,14 @@ soname = libchiselbrow.so.$(firstword $(subst ., ,$(version)))
 programs = build/chiselbrow build/chiselbrow-renew build/almanac
 # The toolchain's own C code, beside rt: what the programs call of the system.
 system := $(dir $(shell readlink -f "$$(command -v rt)"))../lib/libos_c.a
-test_tools = build/independent build/store_check build/null_check build/builders build/incident build/feed build/faults.so
+test_tools = build/independent build/store_check build/convert_check build/null_check build/builders build/incident \
+             build/feed build/faults.so
 bench_tools = build/bench build/bench_heads build/c_program build/c_renew build/c_compare build/c_pentads
 # The longest first, so that two at a time end together.
-tests = tests/mixups.sh tests/program.sh tests/every_day.sh tests/every_year.sh tests/pipes.sh tests/damaged.sh \
-        tests/every_comparison.sh tests/every_pentad.sh tests/faults.sh tests/cases.sh tests/descriptors.sh \
-        tests/arguments.sh tests/manual.sh tests/install.sh tests/shared.sh tests/shared.py tests/header.sh \
-        tests/host.sh tests/printed_heads.sh build/null_check build/builders build/incident
+tests = tests/mixups.sh tests/program.sh tests/every_day.sh tests/convert.sh tests/renew.sh tests/every_year.sh \
+        tests/pipes.sh tests/damaged.sh tests/every_comparison.sh tests/every_pentad.sh tests/faults.sh tests/cases.sh \
+        tests/descriptors.sh tests/arguments.sh tests/manual.sh tests/install.sh tests/shared.sh tests/shared.py \
+        tests/header.sh tests/host.sh tests/printed_heads.sh build/null_check build/builders build/incident
 crates := crates.txt $(shell find crates -name must-fail -prune -o -type f -print)
 
 # Two runs of rt at a time would share target/.
@@ -128,8 +129,10 @@ build/independent: $(wildcard tests/independent/*.rs) | build
 build/null_check: tests/null.c include/chiselbrow.h $(library)
 	$(CC) $(CFLAGS) -Iinclude -o $@ $< $(library)
 
-build/store_check build/builders build/incident: build/%: tests/%.c include/chiselbrow.h $(library)
+build/store_check build/convert_check build/builders build/incident: build/%: tests/%.c include/chiselbrow.h $(library)
 	$(CC) $(CFLAGS) -Iinclude -o $@ $< $(library)
+
+build/store_check build/convert_check: tests/frames.h
 
 build/feed: tests/feed.c | build
 	$(CC) $(CFLAGS) -o $@ $<

@@ -1,5 +1,7 @@
 // The conversion of records of the retired kind 2, which cited a day by its name counted from 0, into kind 5.
 ghost use mathlib.Core.Path.{_≡_};
+ghost use mathlib.Core.Bool.{false};
+ghost use lib.Dec.{eqb};
 ghost use lib.ListN.{length};
 ghost use Rattle.conversion.specs.Conversion.{conversionRefusal, converted, conversionAnswer, convertedInto, renewed, leftWith};
 use citation::output::put;
@@ -11,8 +13,25 @@ use reckoning::refusal_numbers::LENGTH;
 use reckoning::refusal_numbers::OUTPUT;
 use reckoning::refusal_numbers::SHORT;
 
-// The refusal of a record by its bytes, 0 where there is none. What it cites is left to the storing step.
-fn refusal(s: &[u8]) -> u8
+// A record that is converted.
+fn is_old(s: &[u8]) -> bool
+    ensures { λ r. ⌜ r ≡ eqb (conversionRefusal (now (s .entry))) 0 ⌝ }
+{
+    if s.len() != 10 {
+        return false;
+    }
+    if le16(s[0], s[1]) != 10 {
+        return false;
+    }
+    if le16(s[2], s[3]) != 2 {
+        return false;
+    }
+    s[9] < 60
+}
+
+// The refusal of another.
+fn refuse(s: &[u8]) -> u8
+    requires { ⌜ eqb (conversionRefusal (now s)) 0 ≡ false ⌝ }
     ensures { λ r. ⌜ r ≡ conversionRefusal (now (s .entry)) ⌝ }
 {
     if s.len() < 4 {
@@ -21,16 +40,23 @@ fn refusal(s: &[u8]) -> u8
     if le16(s[2], s[3]) != 2 {
         return KIND;
     }
-    if le16(s[0], s[1]) != 10 {
-        return LENGTH;
-    }
     if s.len() != 10 {
         return LENGTH;
     }
-    if 59 < s[9] {
-        return DAY;
+    if le16(s[0], s[1]) != 10 {
+        return LENGTH;
     }
-    0
+    DAY
+}
+
+// The refusal of a record by its bytes, 0 where there is none. What it cites is left to the storing step.
+fn refusal(s: &[u8]) -> u8
+    ensures { λ r. ⌜ r ≡ conversionRefusal (now (s .entry)) ⌝ }
+{
+    if is_old(s) {
+        return 0;
+    }
+    refuse(s)
 }
 
 // The record of kind 5 for one of kind 2, whose first four bytes are known.
