@@ -21,6 +21,6 @@ c = constantsOf 3
 
 pub solstice-of-237 : (registerDay c (solsticeDay c (yearsElapsed c 237)) ≡ 1_807_614)
     × (solsticeRemainder c (yearsElapsed c 237) ≡ 1161)
-    × (nameOfCountDay c (solsticeDay c (yearsElapsed c 237)) ≡ 43)
-    × (nameOf 1_807_614 ≡ 43)
+    × (nameOfCountDay c (solsticeDay c (yearsElapsed c 237)) ≡ 44)
+    × (nameOf 1_807_614 ≡ 44)
 solstice-of-237 = (refl, refl, refl, refl)

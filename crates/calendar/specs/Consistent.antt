@@ -22,7 +22,7 @@ pub record Consistent (c : Constants) : Type 0 where
   -- no qi is rounded, and no pentad
   pub qi-exact : DividesYear c 24 (c .units)
   pub pentads-exact : DividesYear c 72 (c .denominator)
-  -- the name of count day 0 puts the names of register days on (r + 49) % 60
+  -- count day 0 has, in the round of sixty, the place of its register day
   pub names-agree : (c .anchor + c .name) % 60 ≡ (c .epoch + 49) % 60
   -- years are counted from an epoch before common year 1: the years elapsed rise by one a year
   pub epoch-before : c .common ≤ c .elapsed

@@ -1,7 +1,7 @@
 // A register day: the Julian Day Number of a civil day counted from midnight. The customer's own term.
 pub struct RegisterDay(pub u32);
 
-// A sixty-day name, from 0 (jiazi) to 59 (guihai).
+// A sixty-day name, from 1 (jiazi) to 60 (guihai).
 pub struct DayName(pub u8);
 
 // The place of a day in its year, from 1.
@@ -24,7 +24,7 @@ pub struct Constants {
     // Years elapsed, N, at the common year `common`.
     pub elapsed: u64,
     pub common: u64,
-    // The sixty-day name of count day 0.
+    // The place of count day 0 in the round of sixty, from 0 (jiazi).
     pub name: u64,
     // The count day of register day 0, where the epoch lies before it; otherwise 0. And the register day of the epoch,
     // which is count day 0, where it lies after; otherwise 0.

@@ -1,5 +1,5 @@
--- The proved examples of paper 01 as paper 02, Q-2, has them, and those of Q-3, Q-4 and Q-6: one statement over a table,
--- computed.
+-- The proved examples of paper 01 as paper 02, Q-2, has them, and those of Q-3, Q-4, Q-6 and Q-7: one statement over a
+-- table, computed.
 use Prim.Native.Nat.{ℕ, _+_, _*_, _-_, _^_, _/_, _%_}
 use mathlib.Core.Path.{_≡_, refl}
 use mathlib.Core.List.{List, [], _∷_, _++_, map}
@@ -96,7 +96,7 @@ byDate : ℕ → ℕ → ℕ → ℕ → ℕ → List ℕ
 byDate system year month leap day = 10 ∷ 0 ∷ 1 ∷ 0 ∷ system ∷ then year (month ∷ leap ∷ day ∷ [])
 
 byName : ℕ → ℕ → ℕ → ℕ → ℕ → List ℕ
-byName system year month leap name = 10 ∷ 0 ∷ 2 ∷ 0 ∷ system ∷ then year (month ∷ leap ∷ name ∷ [])
+byName system year month leap name = 10 ∷ 0 ∷ 5 ∷ 0 ∷ system ∷ then year (month ∷ leap ∷ name ∷ [])
 
 byDay : ℕ → ℕ → List ℕ
 byDay system r = 9 ∷ 0 ∷ 4 ∷ 0 ∷ system ∷ then (r % 65_536) (then (r / 65_536) [])
@@ -119,8 +119,8 @@ expected (question gives numbers) = numbers
 pub table : List Row
 table =
     -- cases 1 and 2
-    (Solstice 1 1092 gives (2_119_895 ∷ 24 ∷ 2320 ∷ []))
-    ∷ (FirstMoon 1 1092 gives (28_067 ∷ 2_119_892 ∷ 21 ∷ 10_343 ∷ []))
+    (Solstice 1 1092 gives (2_119_895 ∷ 25 ∷ 2320 ∷ []))
+    ∷ (FirstMoon 1 1092 gives (28_067 ∷ 2_119_892 ∷ 22 ∷ 10_343 ∷ []))
     -- case 3
     ∷ (Months 1 1092 gives (12 ∷ []))
     ∷ (Days 1 1092 gives (355 ∷ []))
@@ -129,11 +129,13 @@ table =
     -- case 4: month 11 is the first
     ∷ (Number 1 1092 1 gives (11 ∷ 0 ∷ []))
     ∷ (Month 1 1092 1 gives (2_119_892 ∷ 30 ∷ []))
-    ∷ (Refusal (byName 1 1092 11 0 50) gives (0 ∷ 0 ∷ []))
-    ∷ (Refusal (byName 1 1092 11 0 51) gives (7 ∷ 0 ∷ []))
-    -- what is no record: too short, of kind 5, nine bytes long, or longer than its kind; and an output of nine bytes
+    ∷ (Refusal (byName 1 1092 11 0 51) gives (0 ∷ 0 ∷ []))
+    ∷ (Refusal (byName 1 1092 11 0 52) gives (7 ∷ 0 ∷ []))
+    -- what is no record: too short, of kind 6, of kind 0, nine bytes long, or longer than its kind; and an output of
+    -- nine bytes
     ∷ (Refusal (10 ∷ 0 ∷ 1 ∷ []) gives (1 ∷ 0 ∷ []))
-    ∷ (Refusal (10 ∷ 0 ∷ 5 ∷ 0 ∷ []) gives (2 ∷ 0 ∷ []))
+    ∷ (Refusal (10 ∷ 0 ∷ 6 ∷ 0 ∷ []) gives (2 ∷ 0 ∷ []))
+    ∷ (Refusal (10 ∷ 0 ∷ 0 ∷ 0 ∷ []) gives (2 ∷ 0 ∷ []))
     ∷ (Refusal (9 ∷ 0 ∷ 1 ∷ 0 ∷ []) gives (3 ∷ 0 ∷ []))
     ∷ (Refusal (byOrdinal 1 1092 1 ++ 0 ∷ []) gives (3 ∷ 0 ∷ []))
     ∷ (RefusalOfNine (byOrdinal 1 1092 1) gives (8 ∷ 0 ∷ []))
@@ -151,28 +153,37 @@ table =
     ∷ (BeforeMoon 1 1094 12 8 gives (0 ∷ 76 ∷ []))
     -- paper 02, Q-3: a leap month 5 is refused, by date and by name, and the year's leap month told
     ∷ (Refusal (byDate 1 1094 5 1 1) gives (10 ∷ 4 ∷ []))
-    ∷ (Refusal (byName 1 1094 5 1 37) gives (10 ∷ 4 ∷ []))
+    ∷ (Refusal (byName 1 1094 5 1 38) gives (10 ∷ 4 ∷ []))
     ∷ (Answer (byDate 1 1094 5 1 1) gives ((4 * 2 ^ 40 + 10 * 2 ^ 32) ∷ []))
     -- or 0, in a year of twelve months
     ∷ (Refusal (byDate 1 1092 5 1 1) gives (10 ∷ 0 ∷ []))
-    ∷ (Refusal (byName 1 1092 5 1 50) gives (10 ∷ 0 ∷ []))
+    ∷ (Refusal (byName 1 1092 5 1 51) gives (10 ∷ 0 ∷ []))
     -- month 13, and leap byte 2, are refused before
     ∷ (Refusal (byDate 1 1094 13 1 1) gives (6 ∷ 0 ∷ []))
-    ∷ (Refusal (byName 1 1094 13 1 37) gives (6 ∷ 0 ∷ []))
+    ∷ (Refusal (byName 1 1094 13 1 38) gives (6 ∷ 0 ∷ []))
     ∷ (Refusal (byDate 1 1094 5 2 1) gives (6 ∷ 0 ∷ []))
-    ∷ (Refusal (byName 1 1094 5 2 37) gives (6 ∷ 0 ∷ []))
+    ∷ (Refusal (byName 1 1094 5 2 38) gives (6 ∷ 0 ∷ []))
     -- and a day that there is not, after
     ∷ (Refusal (byDate 1 1094 5 1 31) gives (10 ∷ 4 ∷ []))
     ∷ (Refusal (byDate 1 1094 4 1 31) gives (7 ∷ 0 ∷ []))
     -- cases 7 and 8
-    ∷ (Solstice 2 1106 gives (2_125_008 ∷ 37 ∷ 4536 ∷ []))
-    ∷ (FirstMoon 2 1106 gives (50_806 ∷ 2_125_001 ∷ 30 ∷ 4760 ∷ []))
+    ∷ (Solstice 2 1106 gives (2_125_008 ∷ 38 ∷ 4536 ∷ []))
+    ∷ (FirstMoon 2 1106 gives (50_806 ∷ 2_125_001 ∷ 31 ∷ 4760 ∷ []))
     ∷ (Months 2 1106 gives (12 ∷ []))
     -- case 9: four records of one day
     ∷ (Stored first-of-case-9 gives first-of-case-9)
-    ∷ (Stored (0x0A ∷ 0x00 ∷ 0x02 ∷ 0x00 ∷ 0x01 ∷ 0x46 ∷ 0x04 ∷ 0x05 ∷ 0x00 ∷ 0x25 ∷ []) gives first-of-case-9)
+    ∷ (Stored (0x0A ∷ 0x00 ∷ 0x05 ∷ 0x00 ∷ 0x01 ∷ 0x46 ∷ 0x04 ∷ 0x05 ∷ 0x00 ∷ 0x26 ∷ []) gives first-of-case-9)
     ∷ (Stored (0x09 ∷ 0x00 ∷ 0x03 ∷ 0x00 ∷ 0x01 ∷ 0x46 ∷ 0x04 ∷ 0xD0 ∷ 0x00 ∷ []) gives first-of-case-9)
     ∷ (Stored (0x09 ∷ 0x00 ∷ 0x04 ∷ 0x00 ∷ 0x01 ∷ 0x68 ∷ 0x5C ∷ 0x20 ∷ 0x00 ∷ []) gives first-of-case-9)
+    -- Q-7: kind 2 is retired, whole or not, whatever else is wrong; so is a record of nine bytes with it
+    ∷ (Refusal (10 ∷ 0 ∷ 2 ∷ 0 ∷ 1 ∷ 0x46 ∷ 0x04 ∷ 5 ∷ 0 ∷ 37 ∷ []) gives (11 ∷ 0 ∷ []))
+    ∷ (Refusal (10 ∷ 0 ∷ 2 ∷ 0 ∷ 4 ∷ 0 ∷ 0 ∷ 13 ∷ 2 ∷ 60 ∷ []) gives (11 ∷ 0 ∷ []))
+    ∷ (Refusal (9 ∷ 0 ∷ 2 ∷ 0 ∷ []) gives (11 ∷ 0 ∷ []))
+    -- the last name, guihai, and the first, jiazi, on two days of one month; there is no name 0, and none 61
+    ∷ (Stored (byName 1 1094 4 0 60) gives byDate 1 1094 4 0 22)
+    ∷ (Stored (byName 1 1094 4 0 1) gives byDate 1 1094 4 0 23)
+    ∷ (Refusal (byName 1 1094 4 0 0) gives (7 ∷ 0 ∷ []))
+    ∷ (Refusal (byName 1 1094 4 0 61) gives (7 ∷ 0 ∷ []))
     -- case 10: the solstice of 1108 falls on the day of the next new moon, so that the last month of 1107 is leap 10
     ∷ (BeforeMoon 2 1108 0 1 gives (0 ∷ 5892 ∷ []))
     ∷ (Months 2 1107 gives (13 ∷ []))
@@ -182,15 +193,15 @@ table =
     ∷ (Refusal (byDate 2 1108 10 1 1) gives (10 ∷ 0 ∷ []))
     -- Q-4: from the solstices of cases 1 and 7 one step, in 36ths and in 60ths; then one that is a qi, at three
     -- quarters
-    ∷ (Pentad 1 1092 0 gives (0 ∷ 2_119_895 ∷ 24 ∷ 2320 ∷ 0 ∷ []))
-    ∷ (Pentad 1 1092 1 gives (0 ∷ 2_119_900 ∷ 29 ∷ 3196 ∷ 4 ∷ []))
-    ∷ (Pentad 2 1106 0 gives (0 ∷ 2_125_008 ∷ 37 ∷ 4536 ∷ 0 ∷ []))
-    ∷ (Pentad 2 1106 1 gives (0 ∷ 2_125_013 ∷ 42 ∷ 5066 ∷ 55 ∷ []))
-    ∷ (Pentad 2 1106 3 gives (0 ∷ 2_125_023 ∷ 52 ∷ 6128 ∷ 45 ∷ []))
-    -- refused, with zeros; 49 is the name of day 0
-    ∷ (Pentad 4 0 72 gives (4 ∷ 0 ∷ 49 ∷ 0 ∷ 0 ∷ []))
-    ∷ (Pentad 1 0 72 gives (5 ∷ 0 ∷ 49 ∷ 0 ∷ 0 ∷ []))
-    ∷ (Pentad 1 3000 72 gives (9 ∷ 0 ∷ 49 ∷ 0 ∷ 0 ∷ []))
+    ∷ (Pentad 1 1092 0 gives (0 ∷ 2_119_895 ∷ 25 ∷ 2320 ∷ 0 ∷ []))
+    ∷ (Pentad 1 1092 1 gives (0 ∷ 2_119_900 ∷ 30 ∷ 3196 ∷ 4 ∷ []))
+    ∷ (Pentad 2 1106 0 gives (0 ∷ 2_125_008 ∷ 38 ∷ 4536 ∷ 0 ∷ []))
+    ∷ (Pentad 2 1106 1 gives (0 ∷ 2_125_013 ∷ 43 ∷ 5066 ∷ 55 ∷ []))
+    ∷ (Pentad 2 1106 3 gives (0 ∷ 2_125_023 ∷ 53 ∷ 6128 ∷ 45 ∷ []))
+    -- refused, with zeros; 50 is the name of day 0
+    ∷ (Pentad 4 0 72 gives (4 ∷ 0 ∷ 50 ∷ 0 ∷ 0 ∷ []))
+    ∷ (Pentad 1 0 72 gives (5 ∷ 0 ∷ 50 ∷ 0 ∷ 0 ∷ []))
+    ∷ (Pentad 1 3000 72 gives (9 ∷ 0 ∷ 50 ∷ 0 ∷ 0 ∷ []))
     -- the day of case 9, the turn of the year, the first and the last day
     ∷ (InForceOn 1 2_120_808 gives (0 ∷ 1094 ∷ 36 ∷ []))
     ∷ (InForceOn 1 2_119_894 gives (0 ∷ 1091 ∷ 71 ∷ []))
@@ -201,23 +212,23 @@ table =
     ∷ (InForceOn 2 2_817_145 gives (7 ∷ 0 ∷ 0 ∷ []))
     ∷ (InForceOn 4 0 gives (4 ∷ 0 ∷ 0 ∷ []))
     -- Q-6: the solstice of 237, its year, and the next, whose last month is leap 10
-    ∷ (Solstice 3 237 gives (1_807_614 ∷ 43 ∷ 1161 ∷ []))
-    ∷ (Moon 3 237 gives (1_807_606 ∷ 35 ∷ 3915 ∷ []))
+    ∷ (Solstice 3 237 gives (1_807_614 ∷ 44 ∷ 1161 ∷ []))
+    ∷ (Moon 3 237 gives (1_807_606 ∷ 36 ∷ 3915 ∷ []))
     ∷ (Months 3 237 gives (12 ∷ []))
     ∷ (Days 3 237 gives (355 ∷ []))
     ∷ (Months 3 238 gives (13 ∷ []))
     ∷ (Number 3 238 13 gives (10 ∷ 1 ∷ []))
     ∷ (Month 3 238 13 gives (1_808_315 ∷ 30 ∷ []))
     -- solstice and new moon of 239 at one moment, 228 of 1,843 parts and 564 of 4,559
-    ∷ (Solstice 3 239 gives (1_808_345 ∷ 54 ∷ 228 ∷ []))
-    ∷ (Moon 3 239 gives (1_808_345 ∷ 54 ∷ 564 ∷ []))
+    ∷ (Solstice 3 239 gives (1_808_345 ∷ 55 ∷ 228 ∷ []))
+    ∷ (Moon 3 239 gives (1_808_345 ∷ 55 ∷ 564 ∷ []))
     -- year 8 has leap 1 by the days of the middle qi; by their moments it would be leap 2
     ∷ (Number 3 8 4 gives (1 ∷ 1 ∷ []))
     -- and 236 leap 2, where the rounding of 001 would have leap 1
     ∷ (Number 3 236 5 gives (2 ∷ 1 ∷ []))
     -- four records of one day
     ∷ (Stored (byDate 3 238 10 1 1) gives byDate 3 238 10 1 1)
-    ∷ (Stored (byName 3 238 10 1 24) gives byDate 3 238 10 1 1)
+    ∷ (Stored (byName 3 238 10 1 25) gives byDate 3 238 10 1 1)
     ∷ (Stored (byOrdinal 3 238 355) gives byDate 3 238 10 1 1)
     ∷ (Stored (byDay 3 1_808_315) gives byDate 3 238 10 1 1)
     -- the first and the last day of the years 1 and 3000, and those beside them
@@ -233,16 +244,16 @@ table =
     ∷ (Refusal (byDate 4 0 13 2 31) gives (4 ∷ 0 ∷ []))
     ∷ (Refusal (byDay 0 1_808_315) gives (4 ∷ 0 ∷ []))
     ∷ (Refusal (byOrdinal 0 238 1) gives (4 ∷ 0 ∷ []))
-    ∷ (Refusal (byName 0 238 10 1 24) gives (4 ∷ 0 ∷ []))
-    ∷ (Pentad 0 237 1 gives (4 ∷ 0 ∷ 49 ∷ 0 ∷ 0 ∷ []))
+    ∷ (Refusal (byName 0 238 10 1 25) gives (4 ∷ 0 ∷ []))
+    ∷ (Pentad 0 237 1 gives (4 ∷ 0 ∷ 50 ∷ 0 ∷ 0 ∷ []))
     ∷ (InForceOn 0 1_808_315 gives (4 ∷ 0 ∷ 0 ∷ []))
     -- days before the epoch, and the epoch
     ∷ (Refusal (byDay 3 0) gives (7 ∷ 0 ∷ []))
     ∷ (Refusal (byDay 3 330_190) gives (7 ∷ 0 ∷ []))
     ∷ (Refusal (byDay 3 330_191) gives (7 ∷ 0 ∷ []))
     -- from the solstice of 237 one pentad, and three, which are a qi; the first and the last day of the years 1 to 3000
-    ∷ (Pentad 3 237 1 gives (0 ∷ 1_807_619 ∷ 48 ∷ 1295 ∷ 11 ∷ []))
-    ∷ (Pentad 3 237 3 gives (0 ∷ 1_807_629 ∷ 58 ∷ 1563 ∷ 33 ∷ []))
+    ∷ (Pentad 3 237 1 gives (0 ∷ 1_807_619 ∷ 49 ∷ 1295 ∷ 11 ∷ []))
+    ∷ (Pentad 3 237 3 gives (0 ∷ 1_807_629 ∷ 59 ∷ 1563 ∷ 33 ∷ []))
     ∷ (Qi 3 237 1 gives (1_807_629 ∷ []))
     ∷ (InForceOn 3 330_190 gives (7 ∷ 0 ∷ 0 ∷ []))
     ∷ (InForceOn 3 1_721_415 gives (7 ∷ 0 ∷ 0 ∷ []))

@@ -8,57 +8,64 @@ use lib.ListN.{length}
 use Rattle.calendar.specs.Inside.{Inside}
 use Rattle.calendar.proofs.Rising.{by-order}
 use Rattle.reckoning.proofs.RefusalCases.{by-inside}
-use Rattle.reckoning.specs.RefusalNumbers.{SHORT, KIND, LENGTH, OUTPUT}
+use Rattle.reckoning.specs.RefusalNumbers.{SHORT, KIND, RETIRED, LENGTH, OUTPUT}
 use Rattle.citation.specs.declared.judge.Judgement.{Judgement}
 use Rattle.citation.specs.Record.{kindOf}
 use Rattle.reckoning.specs.WordedRefusals.{FirstOf, _when_}
-use Rattle.citation.specs.CitationRefusals.{TooShort, WrongKind, WrongLength, NoRoom, contentRows, citationRows, storingRows}
+use Rattle.citation.specs.CitationRefusals.{TooShort, WrongKind, RetiredKind, WrongLength, NoRoom, contentRows, citationRows, storingRows}
 use Rattle.citation.specs.Store.{judgeKind, judgeOf, refusalOf}
 use Rattle.citation.proofs.RowLaws.{first-unique, first-before, first-after}
-use Rattle.citation.proofs.JudgementCases.{kind-one, kind-two, kind-three, kind-four}
+use Rattle.citation.proofs.JudgementCases.{kind-one, kind-five, kind-three, kind-four}
 use Rattle.citation.proofs.JudgementCases.{by-equal}
-use Rattle.citation.proofs.WholeRecord.{by-length, too-short, wrong-kind, wrong-length, right-record}
+use Rattle.citation.proofs.WholeRecord.{by-length, too-short, wrong-kind, retired-kind, wrong-length, right-record}
 use Rattle.citation.proofs.JudgedByKind.{Judged, plainly-refused, day-judged, name-judged, ordinal-judged, register-day-judged}
 use Rattle.citation.proofs.Storing.{refusal-kept, refusal-output, refusal-none}
 
 module _ (s : List ℕ) where
   -- A record by its kind.
-  kind-judged : Inside 1 4 (kindOf s) → Judged (contentRows s) s (judgeKind s)
-  kind-judged i =
-      by-order (kindOf s) 2
-      (λ h. let e : kindOf s ≡ 1 = omega (arith, i) in subst (Judged (contentRows s) s) (kind-one s refl e refl refl refl refl refl) (day-judged s e))
-      (λ h.
-      by-order (kindOf s) 3
-      (λ l. let e : kindOf s ≡ 2 = omega arith in subst (Judged (contentRows s) s) (kind-two s refl e refl refl refl refl refl) (name-judged s e))
-      (λ l.
-      by-order (kindOf s) 4
-      (λ m. let e : kindOf s ≡ 3 = omega arith in subst (Judged (contentRows s) s) (kind-three s refl e refl refl refl) (ordinal-judged s e))
-      (λ m. let e : kindOf s ≡ 4 = omega (arith, i) in subst (Judged (contentRows s) s) (kind-four s refl e refl refl) (register-day-judged s e))))
+  kind-judged : Inside 1 5 (kindOf s) → (RetiredKind s → ⊥) → Judged (contentRows s) s (judgeKind s)
+  kind-judged i not-two =
+      by-equal (kindOf s) 1
+      (λ e. subst (Judged (contentRows s) s) (kind-one s refl e refl refl refl refl refl) (day-judged s e))
+      (λ not-one.
+      by-equal (kindOf s) 5
+      (λ e. subst (Judged (contentRows s) s) (kind-five s refl e refl refl refl refl refl) (name-judged s e))
+      (λ not-five.
+      by-equal (kindOf s) 3
+      (λ e. subst (Judged (contentRows s) s) (kind-three s refl e refl refl refl) (ordinal-judged s e))
+      (λ not-three.
+      let e : kindOf s ≡ 4 = omega (arith, i) in
+      subst (Judged (contentRows s) s) (kind-four s refl e refl refl) (register-day-judged s e))))
 
   -- It is a record: its content decides.
-  content-decides : (j : Judgement) → (TooShort s → ⊥) → (WrongKind s → ⊥) → (WrongLength s → ⊥)
+  content-decides : (j : Judgement) → (TooShort s → ⊥) → (WrongKind s → ⊥) → (RetiredKind s → ⊥) → (WrongLength s → ⊥)
       → Judged (contentRows s) s j
       → Judged (citationRows s) s j
-  content-decides j a b d (Judged.refused number told some tells e rows) =
-      Judged.refused number told some tells e (inr (a, inr (b, inr (d, rows))))
-  content-decides j a b d (Judged.accepted z nothing rows kept) =
-      Judged.accepted z nothing (inr (a, inr (b, inr (d, rows)))) kept
+  content-decides j a b c d (Judged.refused number told some tells e rows) =
+      Judged.refused number told some tells e (inr (a, inr (b, inr (c, inr (d, rows)))))
+  content-decides j a b c d (Judged.accepted z nothing rows kept) =
+      Judged.accepted z nothing (inr (a, inr (b, inr (c, inr (d, rows))))) kept
 
   pub judged : Judged (citationRows s) s (judgeOf s)
   judged =
       by-order (length s) 4
       (λ h. plainly-refused SHORT (omega arith) (sym (too-short s h)) (inl (refl, h)))
       (λ h.
-      by-inside 1 4 (kindOf s)
+      by-inside 1 5 (kindOf s)
       (λ e out. plainly-refused KIND (omega arith) (sym (wrong-kind s h out)) (inr (λ v. omega arith, inl (refl, out))))
       (λ e into.
+      by-equal (kindOf s) 2
+      (λ two.
+      plainly-refused RETIRED (omega arith) (sym (retired-kind s h into two))
+      (inr (λ v. omega arith, inr (λ v. v into, inl (refl, two)))))
+      (λ not-two.
       by-length s
       (λ l wrong.
-      plainly-refused LENGTH (omega arith) (sym (wrong-length s h into l))
-      (inr (λ v. omega arith, inr (λ v. v into, inl (refl, wrong)))))
+      plainly-refused LENGTH (omega arith) (sym (wrong-length s h into not-two l))
+      (inr (λ v. omega arith, inr (λ v. v into, inr (not-two, inl (refl, wrong))))))
       (λ l right.
-      subst (Judged (citationRows s) s) (right-record s h into l)
-      (content-decides (judgeKind s) (λ v. omega arith) (λ v. v into) (λ v. v right) (kind-judged into)))))
+      subst (Judged (citationRows s) s) (right-record s h into not-two l)
+      (content-decides (judgeKind s) (λ v. omega arith) (λ v. v into) not-two (λ v. v right) (kind-judged into not-two))))))
 
 -- The judgement's number is that of the first row on its bytes that applies.
 pub judgement-first : (s : List ℕ) → FirstOf (citationRows s) ((judgeOf s) .refusal)

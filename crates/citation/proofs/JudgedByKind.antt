@@ -28,7 +28,7 @@ use Rattle.citation.specs.Record.{kindOf, systemOf, yearField, monthFiel
 use Rattle.citation.specs.Record.{ordinalField, registerDayField, recordOf}
 use Rattle.citation.specs.DayCited.{constantsIn, elapsedIn, CitedMonth, NamesDay, OnDate}
 use Rattle.reckoning.specs.WordedRefusals.{Row, FirstOf}
-use Rattle.citation.specs.CitationRefusals.{contentRows, WrongSystem, WrongYear, WrongMonth, WrongLeap, Placed, NotPlaced, Tells}
+use Rattle.citation.specs.CitationRefusals.{contentRows, WrongSystem, HasMonth, WrongYear, WrongMonth, WrongLeap, Placed, NotPlaced, Tells}
 use Rattle.citation.specs.Store.{refuseTelling, refuse, accept, daysToName, judgeRegisterDay, judgeOrdinal, judgeDay, judgeName}
 use Rattle.citation.proofs.OneDay.{month-once}
 use Rattle.citation.proofs.JudgementCases.{date-refused, date-accepted, ordinal-refused, ordinal-accepted}
@@ -75,11 +75,17 @@ module _ (s : List ℕ) where
   MonthRight = (WrongMonth s → ⊥) × (WrongLeap s → ⊥)
 
   -- Kinds 3 and 4 have no month.
-  no-month : 2 < kindOf s → MonthRight
-  no-month h = (λ v. omega (arith, v .0), λ v. omega (arith, v .0))
+  no-month : (HasMonth s → ⊥) → MonthRight
+  no-month h = (λ v. h (v .0), λ v. h (v .0))
 
-  -- The month of kinds 1 and 2: refused SYSTEM, YEAR, MONTH or LEAP, or found.
-  month-judged : (j : Judgement) (m : Month) → kindOf s ≤ 2
+  kind-three : kindOf s ≡ 3 → HasMonth s → ⊥
+  kind-three three = ⊎-elim (λ e. omega arith) (λ e. omega arith)
+
+  kind-four : kindOf s ≡ 4 → HasMonth s → ⊥
+  kind-four four = ⊎-elim (λ e. omega arith) (λ e. omega arith)
+
+  -- The month of kinds 1 and 5: refused SYSTEM, YEAR, MONTH or LEAP, or found.
+  month-judged : (j : Judgement) (m : Month) → HasMonth s
       → MonthOutcome (systemOf s) (yearField s) (monthField s) (leapField s) m
       → ((m .refusal ≡ 0 → ⊥) → refuseTelling (m .refusal) (m .told) ≡ j)
       → (MonthFound (systemOf s) (yearField s) (monthField s) (leapField s) m → MonthRight → Judged (contentRows s) s j)
@@ -88,7 +94,7 @@ module _ (s : List ℕ) where
       plainly-refused SYSTEM (omega arith) (refused-as e (λ x. x .refusal) (λ x. x .told) (omega arith) r) (inl (refl, w))
   month-judged j m kind (MonthOutcome.year-refused i w e) r f =
       plainly-refused YEAR (omega arith) (refused-as e (λ x. x .refusal) (λ x. x .told) (omega arith) r)
-      (inr (λ v. v i, inl (refl, (omega arith, w))))
+      (inr (λ v. v i, inl (refl, (inl kind, w))))
   month-judged j m kind (MonthOutcome.month-refused i w e) r f =
       plainly-refused MONTH (omega arith) (refused-as e (λ x. x .refusal) (λ x. x .told) (omega arith) r)
       (inr (λ v. v (i .system-inside), inr (λ v. v .1 (i .year-inside), inl (refl, (kind, w)))))
@@ -124,7 +130,7 @@ module _ (s : List ℕ) where
       → Judged (contentRows s) s (judgeDay (systemOf s) (yearField s) (monthField s) (leapField s) (dayField s))
   day-judged kind =
       let m = monthOf (systemOf s) (yearField s) (monthField s) (leapField s) in
-      month-judged (judgeDay (systemOf s) (yearField s) (monthField s) (leapField s) (dayField s)) m (omega arith)
+      month-judged (judgeDay (systemOf s) (yearField s) (monthField s) (leapField s) (dayField s)) m (inl kind)
       (month-outcome (systemOf s) (yearField s) (monthField s) (leapField s))
       (month-refused _ _ _ _ _ m refl)
       (λ f w.
@@ -153,8 +159,8 @@ module _ (s : List ℕ) where
         names = NamesDay.by-day kind k n day-is;
       }))))
 
-  -- Kind 2.
-  name-not-placed : kindOf s ≡ 2 → (k : ℕ) → CitedMonth s k
+  -- Kind 5.
+  name-not-placed : kindOf s ≡ 5 → (k : ℕ) → CitedMonth s k
       → ((d r : ℕ) → InMonth c k d → IsRegisterDay c r d → nameOf r ≡ nameField s → ⊥)
       → NotPlaced s
   name-not-placed e k n out (Placed.day-in-month f l o i) = omega arith
@@ -163,13 +169,13 @@ module _ (s : List ℕ) where
   name-not-placed e k n out (Placed.ordinal-in-year f y i) = omega arith
   name-not-placed e k n out (Placed.day-in-scope f d) = omega arith
 
-  pub name-judged : kindOf s ≡ 2
+  pub name-judged : kindOf s ≡ 5
       → Judged (contentRows s) s (judgeName (systemOf s) (yearField s) (monthField s) (leapField s) (nameField s))
   name-judged kind =
       let m = monthOf (systemOf s) (yearField s) (monthField s) (leapField s) in
       let head = m .head .0 in
       let days = daysToName head (nameField s) in
-      month-judged (judgeName (systemOf s) (yearField s) (monthField s) (leapField s) (nameField s)) m (omega arith)
+      month-judged (judgeName (systemOf s) (yearField s) (monthField s) (leapField s) (nameField s)) m (inr kind)
       (month-outcome (systemOf s) (yearField s) (monthField s) (leapField s))
       (name-month-refused _ _ _ _ _ m refl)
       (λ f w.
@@ -179,11 +185,12 @@ module _ (s : List ℕ) where
       let z = f .not-refused in
       let short = (reckoned c (consistent (systemOf s))) .month-most k in
       let least = (reckoned c (consistent (systemOf s))) .month-least k in
-      by-order 59 (nameField s)
-      (λ far.
+      by-inside 1 60 (nameField s)
+      (λ far out.
       plainly-refused DAY (omega arith) (sym (no-name _ _ _ _ _ m refl z far))
-      (place-rows i w (inl (refl, name-not-placed kind k n (λ d r p is e. omega arith)))))
-      (λ near.
+      (place-rows i w
+      (inl (refl, name-not-placed kind k n (λ d r p is e. out (record { at-least = omega arith; at-most = omega arith }))))))
+      (λ near into.
       by-order days (m .length)
       (λ b.
       let j = accept (head + days) (systemOf s) (yearField s) (monthField s) (leapField s) (days + 1) in
@@ -233,6 +240,9 @@ module _ (s : List ℕ) where
       }
 
   -- Kind 4.
+  no-year : kindOf s ≡ 4 → WrongYear s → ⊥
+  no-year four w = ⊎-elim (kind-four four) (λ e. omega arith) (w .0)
+
   day-out-of-scope : kindOf s ≡ 4 → (DayInScope (systemOf s) (registerDayField s) → ⊥) → NotPlaced s
   day-out-of-scope e out (Placed.day-in-month f l o i) = omega arith
   day-out-of-scope e out (Placed.name-in-month f l d r o i is g) = omega arith
@@ -247,14 +257,13 @@ module _ (s : List ℕ) where
       (inl (refl, w))
   register-day-judged-by kind d is (DateOutcome.day-refused i w e) =
       plainly-refused DAY (omega arith) (refused-as e (λ x. x .refusal) (λ x. 0) (omega arith) (date-refused _ _ d is))
-      (inr (λ v. v i, inr (λ v. omega (arith, v .0), inr (no-month (omega arith) .0, inr (no-month (omega arith) .1, inl (refl, day-out-of-scope kind w))))))
+      (inr (λ v. v i, inr (no-year kind, inr (no-month (kind-four kind) .0, inr (no-month (kind-four kind) .1, inl (refl, day-out-of-scope kind w))))))
   register-day-judged-by kind d is (DateOutcome.found f) =
       let system-right : WrongSystem s → ⊥ = λ v. v (f .in-scope .system-inside) in
-      let year-right : WrongYear s → ⊥ = λ v. omega (arith, v .0) in
-      let month-right = no-month (omega arith) in
+      let month-right = no-month (kind-four kind) in
       let place-right : NotPlaced s → ⊥ = λ v. v (Placed.day-in-scope kind (f .day-in-scope)) in
       subst (Judged (contentRows s) s) (date-accepted _ _ d is (f .not-refused))
-      (Judged.accepted refl refl (inr (system-right, inr (year-right, inr (month-right .0, inr (month-right .1, inr (place-right, refl))))))
+      (Judged.accepted refl refl (inr (system-right, inr (no-year kind, inr (month-right .0, inr (month-right .1, inr (place-right, refl))))))
       (kept-by-date (registerDayField s) d (NamesDay.by-register-day kind refl) f))
 
   pub register-day-judged : kindOf s ≡ 4 → Judged (contentRows s) s (judgeRegisterDay (systemOf s) (registerDayField s))
@@ -279,14 +288,14 @@ module _ (s : List ℕ) where
       (inl (refl, w))
   ordinal-judged-by kind d is (OrdinalOutcome.year-refused i w e) =
       plainly-refused YEAR (omega arith) (refused-as e (λ x. x .refusal) (λ x. 0) (omega arith) (ordinal-refused _ _ _ d is))
-      (inr (λ v. v i, inl (refl, (omega arith, w))))
+      (inr (λ v. v i, inl (refl, (inr kind, w))))
   ordinal-judged-by kind d is (OrdinalOutcome.day-refused i span-of out e) =
       plainly-refused DAY (omega arith) (refused-as e (λ x. x .refusal) (λ x. 0) (omega arith) (ordinal-refused _ _ _ d is))
-      (place-rows i (no-month (omega arith)) (inl (refl, ordinal-not-placed kind span-of out)))
+      (place-rows i (no-month (kind-three kind)) (inl (refl, ordinal-not-placed kind span-of out)))
   ordinal-judged-by kind d is (OrdinalOutcome.found f) =
       let placed = Placed.ordinal-in-year kind (f .span) (f .inside) in
       subst (Judged (contentRows s) s) (ordinal-accepted _ _ _ d is (f .not-refused))
-      (Judged.accepted refl refl (place-rows (f .in-scope) (no-month (omega arith)) (inr (λ v. v placed, refl)))
+      (Judged.accepted refl refl (place-rows (f .in-scope) (no-month (kind-three kind)) (inr (λ v. v placed, refl)))
       (record {
         year = yearField s;
         month = d .month;

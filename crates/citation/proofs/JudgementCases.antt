@@ -2,16 +2,16 @@
 use Prim.Native.Nat.{ℕ, _+_, _-_, _≤_, _<_}
 use mathlib.Core.Path.{_≡_, refl, ap, ap₂, sym, _∙_}
 use mathlib.Core.Bool.{Bool, true, false, cond, _||_}
+use mathlib.Core.Logic.{⊎-elim}
 use mathlib.Core.List.{List}
 use native.Mathlib.Decide.{ℕ-discrete}
 use native.Mathlib.Omega.{arith}
 use lib.ListN.{length}
-use Rattle.calendar.specs.Inside.{Inside}
-use Rattle.calendar.proofs.Rising.{by-order}
 use Rattle.reckoning.specs.RefusalNumbers.{DAY}
 use Rattle.citation.specs.Record.{kindOf, systemOf}
 use Rattle.citation.specs.Record.{yearField, monthField, leapField, dayField, nameField, ordinalField, registerDayField}
-use borrow.Author.Tests.{eq-eqb, ne-eqb, lt-ltb, le-ltb, le-leb, lt-leb}
+use lib.Dec.{leb}
+use borrow.Author.Tests.{eq-eqb, ne-eqb, le-leb, lt-leb}
 use Rattle.reckoning.specs.ComputedRefusals.{outside}
 use Rattle.reckoning.specs.declared.data.Month.{Month}
 use Rattle.reckoning.specs.declared.data.OrdinalDay.{OrdinalDay}
@@ -21,6 +21,7 @@ use Rattle.citation.specs.declared.judge.Judgement.{Judgement}
 use Rattle.citation.specs.Store.{refuseTelling, refuse, accept, unlessRefused, unlessWrong, judgeDate, judgeRegisterDay, judgeOrdinalDay}
 use Rattle.citation.specs.Store.{judgeOrdinal, judgeInMonth, judgeDay, judgeNameInMonth, judgeName, daysToName, nameWrong}
 use Rattle.citation.specs.Store.{judgeKind}
+use Rattle.citation.specs.CitationRefusals.{HasMonth}
 
 pub by-equal : {P : Type 0} (m n : ℕ) → (m ≡ n → P) → ((m ≡ n → ⊥) → P) → P
 by-equal m n f g = elim (ℕ-discrete m n) [ yes e ↦ f e | no e ↦ g e ]
@@ -87,7 +88,7 @@ module _ (system year month leap day : ℕ) (m : Month) (e : m ≡ monthOf syste
   pub day-right : m .refusal ≡ 0 → outside 1 (m .length) day ≡ false → on-day ≡ judgeDay system year month leap day
   day-right h w = right-place (m .refusal) (m .told) (outside 1 (m .length) day) on-day h w ∙ in-month
 
--- Kind 2, with its month.
+-- Kind 5, with its month.
 module _ (system year month leap name : ℕ) (m : Month) (e : m ≡ monthOf system year month leap) where
   abbrev days : ℕ
   days = daysToName (m .head .0) name
@@ -102,22 +103,23 @@ module _ (system year month leap name : ℕ) (m : Month) (e : m ≡ monthOf syst
   pub name-month-refused : (m .refusal ≡ 0 → ⊥) → refuseTelling (m .refusal) (m .told) ≡ judgeName system year month leap name
   name-month-refused h = refused-by (m .refusal) (m .told) false (unlessWrong (nameWrong m name) on-name) h ∙ name-in-month
 
-  pub no-name : m .refusal ≡ 0 → 59 < name → refuse DAY ≡ judgeName system year month leap name
-  no-name z h = wrong-place (m .refusal) (m .told) (nameWrong m name) on-name z (simp (lt-ltb 59 name h)) ∙ name-in-month
+  pub no-name : m .refusal ≡ 0 → outside 1 60 name ≡ true → refuse DAY ≡ judgeName system year month leap name
+  no-name z w =
+      wrong-place (m .refusal) (m .told) (nameWrong m name) on-name z (ap (λ b. b || leb (m .length) days) w) ∙ name-in-month
 
-  pub name-past : m .refusal ≡ 0 → name ≤ 59 → m .length ≤ days → refuse DAY ≡ judgeName system year month leap name
-  name-past z h l =
-      wrong-place (m .refusal) (m .told) (nameWrong m name) on-name z (ap₂ _||_ (le-ltb 59 name h) (le-leb (m .length) days l)) ∙ name-in-month
+  pub name-past : m .refusal ≡ 0 → outside 1 60 name ≡ false → m .length ≤ days → refuse DAY ≡ judgeName system year month leap name
+  name-past z w l =
+      wrong-place (m .refusal) (m .told) (nameWrong m name) on-name z (ap₂ _||_ w (le-leb (m .length) days l)) ∙ name-in-month
 
-  pub name-right : m .refusal ≡ 0 → name ≤ 59 → days < m .length → on-name ≡ judgeName system year month leap name
-  name-right z h l =
-      right-place (m .refusal) (m .told) (nameWrong m name) on-name z (ap₂ _||_ (le-ltb 59 name h) (lt-leb (m .length) days l)) ∙ name-in-month
+  pub name-right : m .refusal ≡ 0 → outside 1 60 name ≡ false → days < m .length → on-name ≡ judgeName system year month leap name
+  name-right z w l =
+      right-place (m .refusal) (m .told) (nameWrong m name) on-name z (ap₂ _||_ w (lt-leb (m .length) days l)) ∙ name-in-month
 
   -- the same, with the days at hand
-  pub name-right-after : {after : ℕ} → after ≡ days → m .refusal ≡ 0 → name ≤ 59 → after < m .length
+  pub name-right-after : {after : ℕ} → after ≡ days → m .refusal ≡ 0 → outside 1 60 name ≡ false → after < m .length
       → accept (m .head .0 + after) system year month leap (after + 1) ≡ judgeName system year month leap name
-  name-right-after is z h l =
-      ap (λ n. accept (m .head .0 + n) system year month leap (n + 1)) is ∙ name-right z h (omega arith)
+  name-right-after is z w l =
+      ap (λ n. accept (m .head .0 + n) system year month leap (n + 1)) is ∙ name-right z w (omega arith)
 
 -- Which judgement a kind gets, from what was read of the fields.
 module _ (s : List ℕ) {j : Judgement} {system : ℕ} (system-is : system ≡ systemOf s) where
@@ -131,17 +133,17 @@ module _ (s : List ℕ) {j : Judgement} {system : ℕ} (system-is : system ≡ s
   kind-one k e year month leap day =
       e ∙ (λ i. judgeDay (system-is i) (year i) (month i) (leap i) (day i)) ∙ simp (eq-eqb (kindOf s) 1 k)
 
-  pub kind-two : {year month leap name : ℕ} → kindOf s ≡ 2 → j ≡ judgeName system year month leap name
+  pub kind-five : {year month leap name : ℕ} → kindOf s ≡ 5 → j ≡ judgeName system year month leap name
       → year ≡ yearField s
       → month ≡ monthField s
       → leap ≡ leapField s
       → name ≡ nameField s
       → j ≡ judgeKind s
   unfolding judgeKind
-  kind-two k e year month leap name =
+  kind-five k e year month leap name =
       e
       ∙ (λ i. judgeName (system-is i) (year i) (month i) (leap i) (name i))
-      ∙ simp (ne-eqb (kindOf s) 1 (omega arith), eq-eqb (kindOf s) 2 k)
+      ∙ simp (ne-eqb (kindOf s) 1 (omega arith), eq-eqb (kindOf s) 5 k)
 
   pub kind-three : {year ordinal : ℕ} → kindOf s ≡ 3 → j ≡ judgeOrdinal system year ordinal
       → year ≡ yearField s
@@ -151,24 +153,25 @@ module _ (s : List ℕ) {j : Judgement} {system : ℕ} (system-is : system ≡ s
   kind-three k e year ordinal =
       e
       ∙ (λ i. judgeOrdinal (system-is i) (year i) (ordinal i))
-      ∙ simp (ne-eqb (kindOf s) 1 (omega arith), ne-eqb (kindOf s) 2 (omega arith), eq-eqb (kindOf s) 3 k)
+      ∙ simp (ne-eqb (kindOf s) 1 (omega arith), ne-eqb (kindOf s) 5 (omega arith), eq-eqb (kindOf s) 3 k)
 
   pub kind-four : {r : ℕ} → kindOf s ≡ 4 → j ≡ judgeRegisterDay system r → r ≡ registerDayField s → j ≡ judgeKind s
   unfolding judgeKind
   kind-four k e r =
       e
       ∙ (λ i. judgeRegisterDay (system-is i) (r i))
-      ∙ simp (ne-eqb (kindOf s) 1 (omega arith), ne-eqb (kindOf s) 2 (omega arith), ne-eqb (kindOf s) 3 (omega arith))
+      ∙ simp (ne-eqb (kindOf s) 1 (omega arith), ne-eqb (kindOf s) 5 (omega arith), ne-eqb (kindOf s) 3 (omega arith))
 
-  -- kinds 1 and 2 are refused as their month is
-  pub kind-one-or-two : {year month leap : ℕ} {m : Month} → Inside 1 2 (kindOf s) → m ≡ monthOf system year month leap
+  -- kinds 1 and 5 are refused as their month is
+  pub kind-with-month : {year month leap : ℕ} {m : Month} → HasMonth s → m ≡ monthOf system year month leap
       → (m .refusal ≡ 0 → ⊥)
       → j ≡ refuseTelling (m .refusal) (m .told)
       → year ≡ yearField s
       → month ≡ monthField s
       → leap ≡ leapField s
       → j ≡ judgeKind s
-  kind-one-or-two {year} {month} {leap} {m} k is some e year-is month-is leap-is =
-      by-order (kindOf s) 2
-      (λ l. kind-one (omega (arith, k)) (e ∙ month-refused system year month leap (dayField s) m is some) year-is month-is leap-is refl)
-      (λ l. kind-two (omega (arith, k)) (e ∙ name-month-refused system year month leap (nameField s) m is some) year-is month-is leap-is refl)
+  kind-with-month {year} {month} {leap} {m} k is some e year-is month-is leap-is =
+      ⊎-elim
+      (λ one. kind-one one (e ∙ month-refused system year month leap (dayField s) m is some) year-is month-is leap-is refl)
+      (λ five. kind-five five (e ∙ name-month-refused system year month leap (nameField s) m is some) year-is month-is leap-is refl)
+      k

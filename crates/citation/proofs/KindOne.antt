@@ -1,6 +1,7 @@
 -- Citations of kind 1: one for each day of a system, and every day has one.
 use Prim.Native.Nat.{ℕ, _/_, _%_}
 use mathlib.Core.Path.{_≡_, ap, sym, _∙_}
+use mathlib.Core.Logic.{inl}
 use mathlib.Core.List.{List, [], _∷_}
 use native.Mathlib.Omega.{arith}
 use lib.ListN.{length}
@@ -37,10 +38,10 @@ pub rightly : (s : List ℕ) → Accepted s → Rightly s
 rightly s a =
     let none = none-applies (citationRows s) (omega arith) a in
     record {
-      length-right = none .1 .1 .0;
-      system-right = none .1 .1 .1 .0;
-      year-right = none .1 .1 .1 .1 .0;
-      place-right = none .1 .1 .1 .1 .1 .1 .1 .0;
+      length-right = none .1 .1 .1 .0;
+      system-right = none .1 .1 .1 .1 .0;
+      year-right = none .1 .1 .1 .1 .1 .0;
+      place-right = none .1 .1 .1 .1 .1 .1 .1 .1 .0;
     }
 
 module _ (b : List ℕ) (a : Accepted b) (kind : kindOf b ≡ 1) where
@@ -70,7 +71,7 @@ module _ (b : List ℕ) (a : Accepted b) (kind : kindOf b ≡ 1) where
   in-scope =
       record {
         system-inside = by-inside 1 lastSystem (systemOf b) (λ e out. absurd (rightly b a .system-right out)) (λ e into. into);
-        year-inside = by-inside 1 3000 (yearField b) (λ e out. absurd (rightly b a .year-right (omega arith, out))) (λ e into. into);
+        year-inside = by-inside 1 3000 (yearField b) (λ e out. absurd (rightly b a .year-right (inl (inl kind), out))) (λ e into. into);
       }
 
   -- the day that it names is on the date that it says

@@ -14,7 +14,7 @@ use Rattle.calendar.proofs.Laws.{number-inside, mark-inside}
 use Rattle.reckoning.specs.Scope.{InScope}
 use Rattle.citation.specs.Record.{Bytes, yearField, recordOf}
 use Rattle.citation.specs.DayCited.{elapsedIn, CitedMonth, NamesDay, OnDate}
-use Rattle.citation.specs.CitationRefusals.{TooShort, WrongKind, WrongLength}
+use Rattle.citation.specs.CitationRefusals.{TooShort, WrongKind, RetiredKind, WrongLength}
 use Rattle.citation.specs.CitationRefusals.{Placed, NotPlaced, Accepted}
 use Rattle.citation.proofs.JudgedByKind.{MonthRight, place-rows}
 
@@ -51,6 +51,9 @@ module _ (system r year month leap day : ℕ) (d : OnDate system r year month le
   kind-right : WrongKind rec → ⊥
   kind-right w = w (record { at-least = omega arith; at-most = omega arith })
 
+  not-retired : RetiredKind rec → ⊥
+  not-retired two = omega arith
+
   length-right : WrongLength rec → ⊥
   length-right w = w (refl, refl)
 
@@ -74,7 +77,10 @@ module _ (system r year month leap day : ℕ) (d : OnDate system r year month le
 
   pub record-accepted : Accepted rec
   record-accepted =
-      inr (long-enough, inr (kind-right, inr (length-right, place-rows rec in-scope month-right (inr (place-right, refl)))))
+      inr (
+        long-enough,
+        inr (kind-right, inr (not-retired, inr (length-right, place-rows rec in-scope month-right (inr (place-right, refl))))),
+      )
 
   pub record-names : NamesDay rec r
   record-names = NamesDay.by-day refl (d .k) month-read (d .day-is)

@@ -1,4 +1,4 @@
--- Numbered refusals: paper 01's table with the row of paper 02, Q-3, a definition a row, in its order.
+-- Numbered refusals: paper 01's table with the rows of paper 02, Q-3 and Q-7, a definition a row, in its order.
 use Prim.Native.Nat.{ℕ, _≤_, _<_}
 use mathlib.Core.Path.{_≡_}
 use mathlib.Core.Logic.{_⊎_}
@@ -9,7 +9,7 @@ use Rattle.calendar.specs.Systems.{IsRegisterDay}
 use Rattle.calendar.specs.SixtyDayName.{nameOf}
 use Rattle.calendar.specs.Month.{InMonth, monthLength}
 use Rattle.calendar.specs.Year.{Span, yearLength, LeapNumber}
-use Rattle.reckoning.specs.RefusalNumbers.{SHORT, KIND, LENGTH, SYSTEM, YEAR, MONTH, DAY, OUTPUT, LEAP}
+use Rattle.reckoning.specs.RefusalNumbers.{SHORT, KIND, RETIRED, LENGTH, SYSTEM, YEAR, MONTH, LEAP, DAY, OUTPUT}
 use Rattle.reckoning.specs.WordedRefusals.{Row, _when_, FirstOf}
 use Rattle.reckoning.specs.Scope.{SystemInScope, YearInScope, NoSuchMonth, NotLeap, DayInScope}
 use Rattle.citation.specs.Record.{lengthField, kindOf, systemOf, kindLength, yearField, monthField, leapField}
@@ -22,7 +22,11 @@ TooShort s = length s < 4
 
 -- KIND: a kind that there is not.
 abbrev pub WrongKind : List ℕ → Type 0
-WrongKind s = Inside 1 4 (kindOf s) → ⊥
+WrongKind s = Inside 1 5 (kindOf s) → ⊥
+
+-- RETIRED, right after it: kind 2, which cited a day by its name counted from 0.
+abbrev pub RetiredKind : List ℕ → Type 0
+RetiredKind s = kindOf s ≡ 2
 
 -- LENGTH: the length field, or the number of bytes handed in, is not the kind's.
 abbrev pub WrongLength : List ℕ → Type 0
@@ -32,23 +36,27 @@ WrongLength s = (lengthField s ≡ kindLength (kindOf s)) × (length s ≡ lengt
 abbrev pub WrongSystem : List ℕ → Type 0
 WrongSystem s = SystemInScope (systemOf s) → ⊥
 
+-- Kinds 1 and 5 have a month.
+abbrev pub HasMonth : List ℕ → Type 0
+HasMonth s = (kindOf s ≡ 1) ⊎ (kindOf s ≡ 5)
+
 -- YEAR: a year out of scope, in the kinds that have one.
 abbrev pub WrongYear : List ℕ → Type 0
-WrongYear s = (kindOf s ≤ 3) × (YearInScope (yearField s) → ⊥)
+WrongYear s = (HasMonth s ⊎ (kindOf s ≡ 3)) × (YearInScope (yearField s) → ⊥)
 
 -- MONTH: a month that there is not, in the kinds that have one.
 abbrev pub WrongMonth : List ℕ → Type 0
-WrongMonth s = (kindOf s ≤ 2) × NoSuchMonth (monthField s) (leapField s)
+WrongMonth s = HasMonth s × NoSuchMonth (monthField s) (leapField s)
 
 -- LEAP, right after it: a leap month that the year has not, in the same kinds.
 abbrev pub WrongLeap : List ℕ → Type 0
-WrongLeap s = (kindOf s ≤ 2) × NotLeap (constantsIn s) (elapsedIn s) (monthField s) (leapField s)
+WrongLeap s = HasMonth s × NotLeap (constantsIn s) (elapsedIn s) (monthField s) (leapField s)
 
 -- What is cited exists: the month has the day, or a day of the name; the year has the ordinal; the register day lies in
 -- years 1 to 3000.
 pub data Placed (s : List ℕ) : Type 0 where
   day-in-month : kindOf s ≡ 1 → (k : ℕ) → CitedMonth s k → Inside 1 (monthLength (constantsIn s) k) (dayField s) → Placed s
-  name-in-month : kindOf s ≡ 2
+  name-in-month : kindOf s ≡ 5
       → (k d r : ℕ)
       → CitedMonth s k
       → InMonth (constantsIn s) k d
@@ -74,7 +82,8 @@ contentRows s =
 
 -- after those on whether it is a record at all: these judge a citation by its bytes,
 abbrev pub citationRows : List ℕ → List Row
-citationRows s = SHORT when TooShort s ∷ KIND when WrongKind s ∷ LENGTH when WrongLength s ∷ contentRows s
+citationRows s =
+    SHORT when TooShort s ∷ KIND when WrongKind s ∷ RETIRED when RetiredKind s ∷ LENGTH when WrongLength s ∷ contentRows s
 
 -- and a storing by its output too.
 abbrev pub storingRows : List ℕ → ℕ → List Row

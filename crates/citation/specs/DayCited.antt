@@ -20,7 +20,7 @@ constantsIn s = constantsOf (systemOf s)
 abbrev pub elapsedIn : List ℕ → ℕ
 elapsedIn s = yearsElapsed (constantsIn s) (yearField s)
 
--- Kinds 1 and 2 cite a month of their year by its number and leap mark.
+-- Kinds 1 and 5 cite a month of their year by its number and leap mark.
 abbrev pub CitedMonth : List ℕ → ℕ → Type 0
 CitedMonth s k = MonthNumbered (constantsIn s) (elapsedIn s) (monthField s) (leapField s) k
 
@@ -32,8 +32,8 @@ pub data NamesDay (s : List ℕ) (r : ℕ) : Type 0 where
       → CitedMonth s k
       → IsRegisterDay (constantsIn s) r (dayOfMonth (constantsIn s) k (dayField s))
       → NamesDay s r
-  -- kind 2, as the one in the month whose name it is
-  by-name : kindOf s ≡ 2
+  -- kind 5, as the one in the month whose name it is
+  by-name : kindOf s ≡ 5
       → (k d : ℕ)
       → CitedMonth s k
       → InMonth (constantsIn s) k d

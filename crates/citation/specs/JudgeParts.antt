@@ -1,8 +1,10 @@
 -- What the parts of the judgement are handed, and what they tell.
-use Prim.Native.Nat.{ℕ, _+_, _-_, _≤_, _<_}
+use Prim.Native.Nat.{ℕ, _<_}
 use mathlib.Core.Path.{_≡_}
-use mathlib.Core.Bool.{Bool, not, _&&_}
+use mathlib.Core.Logic.{_⊎_}
+use mathlib.Core.Bool.{Bool, not, _&&_, _||_}
 use mathlib.Core.List.{List}
+use lib.Dec.{eqb}
 use lib.ListN.{length}
 use Rattle.calendar.specs.Inside.{Inside}
 use Rattle.reckoning.specs.declared.data.Month.{Month}
@@ -11,9 +13,13 @@ use Rattle.reckoning.specs.Requests.{monthOf}
 use Rattle.citation.specs.Record.{kindOf}
 use Rattle.citation.specs.Store.{lengthRight}
 
--- A whole record: of a kind that there is, and as long as that.
+-- A kind that there is, and that is not retired.
+abbrev pub isKind : ℕ → Bool
+isKind kind = not (outside 1 5 kind || eqb kind 2)
+
+-- A whole record: of such a kind, and as long as that.
 abbrev pub isWhole : List ℕ → Bool
-isWhole s = not (outside 1 4 (kindOf s)) && lengthRight s
+isWhole s = isKind (kindOf s) && lengthRight s
 
 -- Numbers that fit the fields of a kind 1 record.
 pub record Fields (system year month leap day : ℕ) : Type 0 where
@@ -23,12 +29,12 @@ pub record Fields (system year month leap day : ℕ) : Type 0 where
   pub leap-byte : leap < 256
   pub day-byte : day < 256
 
--- A record of a kind, at least nine bytes long, and ten where the kind is 1 or 2, so that `kind - 2` is 0.
+-- A whole record of a kind: ten bytes of kind 1 or 5, or nine of kind 3 or 4.
 pub record Whole (s : List ℕ) (kind : ℕ) : Type 0 where
   pub is-kind : kind ≡ kindOf s
-  pub one-to-four : Inside 1 4 kind
-  pub nine : 9 ≤ length s
-  pub ten : 10 ≤ length s + (kind - 2)
+  pub nine-or-ten : Inside 9 10 (length s)
+  pub of-ten : length s ≡ 10 → (kind ≡ 1) ⊎ (kind ≡ 5)
+  pub of-nine : length s ≡ 9 → (kind ≡ 3) ⊎ (kind ≡ 4)
 
 -- The month that a citation names, found.
 pub record Found (m : Month) (system year month leap : ℕ) : Type 0 where

@@ -1,6 +1,6 @@
 -- Citations: their records, the day that they name, their refusals, and what the storing step promises.
 -- The words of this trade are in docs/TERMS.md, and how to read this notation is in docs/READING.md.
--- The record formats of the four kinds.
+-- The record formats of the kinds.
 pub mod Record
 -- The month of a citation, and the day that it names, by the reckoning.
 pub mod DayCited

@@ -1,9 +1,9 @@
--- The record formats of the four kinds: paper 01, "Citation records". Numbers are little-endian.
+-- The record formats of the kinds: paper 01, "Citation records", and paper 02, Q-7. Numbers are little-endian.
 use Prim.Native.Nat.{ℕ, _/_, _%_, _<_}
 use mathlib.Core.Bool.{cond}
 use mathlib.Core.List.{List, [], _∷_}
-use lib.Dec.{leb}
 use lib.ListN.{getD}
+use Rattle.reckoning.specs.ComputedRefusals.{outside}
 use Rattle.little_endian.specs.Number.{le16, le32}
 
 -- The byte at place i.
@@ -24,15 +24,15 @@ kindOf s = le16 (byte s 2) (byte s 3)
 abbrev pub systemOf : List ℕ → ℕ
 systemOf s = byte s 4
 
--- Kinds 1 and 2 are ten bytes long, kinds 3 and 4 nine.
+-- Kinds 3 and 4 are nine bytes long; kinds 1 and 5, and the retired kind 2, ten.
 abbrev pub kindLength : ℕ → ℕ
-kindLength kind = cond (leb kind 2) 10 9
+kindLength kind = cond (outside 3 4 kind) 10 9
 
--- Kinds 1, 2 and 3: the year after byte 4.
+-- Kinds 1, 3 and 5: the year after byte 4.
 abbrev pub yearField : List ℕ → ℕ
 yearField s = le16 (byte s 5) (byte s 6)
 
--- Kinds 1 and 2: then the month, the leap mark, and the day of the month (kind 1) or the name (kind 2).
+-- Kinds 1 and 5: then the month, the leap mark, and the day of the month (kind 1) or the name (kind 5).
 abbrev pub monthField : List ℕ → ℕ
 monthField s = byte s 7
 

@@ -6,7 +6,7 @@ use lib.Dec.{ltb, leb, eqb}
 use lib.ListN.{length, replicate, drop}
 use Rattle.calendar.specs.SixtyDayName.{nameOf}
 use Rattle.reckoning.specs.ComputedRefusals.{outside}
-use Rattle.reckoning.specs.RefusalNumbers.{SHORT, KIND, LENGTH, DAY, OUTPUT}
+use Rattle.reckoning.specs.RefusalNumbers.{SHORT, KIND, RETIRED, LENGTH, DAY, OUTPUT}
 use Rattle.reckoning.specs.Requests.{asRegisterDay, ordinalDayOf, monthOf, dateOf}
 use Rattle.reckoning.specs.declared.data.OrdinalDay.{OrdinalDay}
 use Rattle.reckoning.specs.declared.data.Month.{Month}
@@ -65,9 +65,9 @@ daysToName head name = (name + 60 - nameOf head) % 60
 
 -- There is no such name, or the next day that bears it is past the month.
 abbrev pub nameWrong : Month → ℕ → Bool
-nameWrong m name = ltb 59 name || leb (m .length) (daysToName (m .head .0) name)
+nameWrong m name = outside 1 60 name || leb (m .length) (daysToName (m .head .0) name)
 
--- Kind 2: the day of the month with the name.
+-- Kind 5: the day of the month with the name.
 abbrev pub judgeNameInMonth : Month → ℕ → ℕ → ℕ → ℕ → ℕ → Judgement
 judgeNameInMonth m system year month leap name =
     unlessRefused (m .refusal) (m .told)
@@ -85,7 +85,7 @@ unfoldable pub judgeKind : List ℕ → Judgement
 judgeKind s =
     cond (eqb (kindOf s) 1)
     (judgeDay (systemOf s) (yearField s) (monthField s) (leapField s) (dayField s))
-    (cond (eqb (kindOf s) 2)
+    (cond (eqb (kindOf s) 5)
     (judgeName (systemOf s) (yearField s) (monthField s) (leapField s) (nameField s))
     (cond (eqb (kindOf s) 3)
     (judgeOrdinal (systemOf s) (yearField s) (ordinalField s))
@@ -95,11 +95,13 @@ unfoldable pub judgeOf : List ℕ → Judgement
 judgeOf s =
     cond (ltb (length s) 4)
     (refuse SHORT)
-    (cond (outside 1 4 (kindOf s))
+    (cond (outside 1 5 (kindOf s))
     (refuse KIND)
+    (cond (eqb (kindOf s) 2)
+    (refuse RETIRED)
     (cond (lengthRight s)
     (judgeKind s)
-    (refuse LENGTH)))
+    (refuse LENGTH))))
 
 -- The refusal of a storing: the citation's own, and then OUTPUT where the output has fewer than 10 bytes.
 unfoldable pub refusalOf : List ℕ → ℕ → ℕ

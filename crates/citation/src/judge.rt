@@ -17,6 +17,7 @@ use reckoning::refusal::outside;
 use reckoning::refusal_numbers::DAY;
 use reckoning::refusal_numbers::KIND;
 use reckoning::refusal_numbers::LENGTH;
+use reckoning::refusal_numbers::RETIRED;
 use reckoning::refusal_numbers::SHORT;
 
 // `refusal` is 0 when the citation is accepted; refused, day and record are zeros. Refused LEAP, `told` is the number of
@@ -120,21 +121,21 @@ fn judge_day(m: Month, system: u32, year: u32, month: u32, leap: u32, day: u32) 
 // Sixty times a number, and more than any head.
 const SIXTIES: u32 = 2_147_483_700;
 
-// Days from a month's head to the next day with a name. Day r has the name (r + 49) % 60, so that they are the remainder
-// of name + 11 - head; the sixties keep that above 0.
+// Days from a month's head to the next day with a name. Day r has the name (r + 49) % 60 + 1, so that they are the
+// remainder of name + 10 - head; the sixties keep that above 0.
 fn days_to_name(head: RegisterDay, name: DayName) -> u32
     requires { ⌜ head .0 < 2 ^ 31 ⌝ }
     ensures { λ r. ⌜ r ≡ daysToName (head .0) (name .0) ⌝ }
 {
-    (name.0 as u32 + 11 + SIXTIES - head.0) % 60
+    (name.0 as u32 + 10 + SIXTIES - head.0) % 60
 }
 
-// Kind 2, in its month.
+// Kind 5, in its month.
 fn judge_name(m: Month, system: u32, year: u32, month: u32, leap: u32, name: DayName) -> Judgement
     requires { ⌜ Fields system year month leap 0 × Found m system year month leap ⌝ }
     ensures { λ r. ⌜ r ≡ judgeName system year month leap (name .0) ⌝ }
 {
-    if 59 < name.0 {
+    if outside(1, 60, name.0 as u32) {
         return refuse(DAY);
     }
     let days = days_to_name(m.head, name);
@@ -151,7 +152,7 @@ fn judge_kind(s: &[u8], kind: u32) -> Judgement
     ensures { λ r. ⌜ r ≡ judgeKind (now (s .entry)) ⌝ }
 {
     let system = wide(s[4]);
-    if kind <= 2 {
+    if s.len() == 10 {
         let year = le16(s[5], s[6]);
         let month = wide(s[7]);
         let leap = wide(s[8]);
@@ -173,8 +174,8 @@ fn judge_kind(s: &[u8], kind: u32) -> Judgement
     judge_register_day(system, RegisterDay(le32(s[5], s[6], s[7], s[8])))
 }
 
-// A whole record: its kind is 1 to 4, and the length field and the length of the input are those of the kind. Kinds 1 and
-// 2 have ten bytes, and 3 and 4 nine, so that a kind and twice its length make 21 or 22.
+// A whole record: the length field and the length of the input are those of its kind. Kinds 1 and 5 have ten bytes, and
+// 3 and 4 nine.
 fn is_whole(s: &[u8]) -> bool
     ensures { λ r. ⌜ r ≡ isWhole (now (s .entry)) ⌝ }
 {
@@ -188,7 +189,14 @@ fn is_whole(s: &[u8]) -> bool
     if le16(s[0], s[1]) as usize != length {
         return false;
     }
-    !outside(21, 22, le16(s[2], s[3]) + 2 * length as u32)
+    let kind = le16(s[2], s[3]);
+    if length == 9 {
+        return !outside(3, 4, kind);
+    }
+    if kind == 1 {
+        return true;
+    }
+    kind == 5
 }
 
 // What is no whole record is refused, in the order of the table.
@@ -199,8 +207,12 @@ fn refuse_frame(s: &[u8]) -> Judgement
     if s.len() < 4 {
         return refuse(SHORT);
     }
-    if outside(1, 4, le16(s[2], s[3])) {
+    let kind = le16(s[2], s[3]);
+    if outside(1, 5, kind) {
         return refuse(KIND);
+    }
+    if kind == 2 {
+        return refuse(RETIRED);
     }
     refuse(LENGTH)
 }

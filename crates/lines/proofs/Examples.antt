@@ -1,4 +1,4 @@
--- Runs, computed: the one that paper 01 shows, as paper 02, Q-2, has it (the four records of case 9 and a byte 00), and
+-- Runs, computed: the one that paper 01 shows, as paper 02, Q-2 and Q-7, have it (the four records of case 9 and a byte 00), and
 -- records that paper 02, Q-3, refuses.
 use mathlib.Core.Path.{_≡_, refl}
 use mathlib.Core.List.{List, [], _∷_, _++_}
@@ -17,14 +17,14 @@ use Rattle.lines.specs.Program.{outputOf}
 abbrev pub case-9 : List ℕ
 case-9 =
     (0x0A ∷ 0x00 ∷ 0x01 ∷ 0x00 ∷ 0x01 ∷ 0x46 ∷ 0x04 ∷ 0x05 ∷ 0x00 ∷ 0x01 ∷ [])
-    ++ (0x0A ∷ 0x00 ∷ 0x02 ∷ 0x00 ∷ 0x01 ∷ 0x46 ∷ 0x04 ∷ 0x05 ∷ 0x00 ∷ 0x25 ∷ [])
+    ++ (0x0A ∷ 0x00 ∷ 0x05 ∷ 0x00 ∷ 0x01 ∷ 0x46 ∷ 0x04 ∷ 0x05 ∷ 0x00 ∷ 0x26 ∷ [])
     ++ (0x09 ∷ 0x00 ∷ 0x03 ∷ 0x00 ∷ 0x01 ∷ 0x46 ∷ 0x04 ∷ 0xD0 ∷ 0x00 ∷ [])
     ++ (0x09 ∷ 0x00 ∷ 0x04 ∷ 0x00 ∷ 0x01 ∷ 0x68 ∷ 0x5C ∷ 0x20 ∷ 0x00 ∷ [])
 
--- "G 1094 5 1 2120808 37"
+-- "G 1094 5 1 2120808 38"
 abbrev pub day-line : List ℕ
 day-line =
-    71 ∷ 32 ∷ 49 ∷ 48 ∷ 57 ∷ 52 ∷ 32 ∷ 53 ∷ 32 ∷ 49 ∷ 32 ∷ 50 ∷ 49 ∷ 50 ∷ 48 ∷ 56 ∷ 48 ∷ 56 ∷ 32 ∷ 51 ∷ 55 ∷ 10 ∷ []
+    71 ∷ 32 ∷ 49 ∷ 48 ∷ 57 ∷ 52 ∷ 32 ∷ 53 ∷ 32 ∷ 49 ∷ 32 ∷ 50 ∷ 49 ∷ 50 ∷ 48 ∷ 56 ∷ 48 ∷ 56 ∷ 32 ∷ 51 ∷ 56 ∷ 10 ∷ []
 
 -- "refused " and more
 abbrev refused : List ℕ → List ℕ
@@ -43,9 +43,9 @@ shown-run = refl
 abbrev pub day-in : ℕ → List ℕ
 day-in system = 0x09 ∷ 0x00 ∷ 0x04 ∷ 0x00 ∷ system ∷ 0xBB ∷ 0x97 ∷ 0x1B ∷ 0x00 ∷ []
 
--- " 1 1808315 24", after "G 239 11" and "J 239 11", or after "W 238 10*"
+-- " 1 1808315 25", after "G 239 11" and "J 239 11", or after "W 238 10*"
 abbrev on-the-day : List ℕ
-on-the-day = 32 ∷ 49 ∷ 32 ∷ 49 ∷ 56 ∷ 48 ∷ 56 ∷ 51 ∷ 49 ∷ 53 ∷ 32 ∷ 50 ∷ 52 ∷ 10 ∷ []
+on-the-day = 32 ∷ 49 ∷ 32 ∷ 49 ∷ 56 ∷ 48 ∷ 56 ∷ 51 ∷ 49 ∷ 53 ∷ 32 ∷ 50 ∷ 53 ∷ 10 ∷ []
 
 -- "refused 4"
 abbrev pub system-line : List ℕ
@@ -61,7 +61,7 @@ run-of-each-system = refl
 abbrev pub leap-months : List ℕ
 leap-months =
     (0x0A ∷ 0x00 ∷ 0x01 ∷ 0x00 ∷ 0x01 ∷ 0x46 ∷ 0x04 ∷ 0x05 ∷ 0x01 ∷ 0x01 ∷ [])
-    ++ (0x0A ∷ 0x00 ∷ 0x02 ∷ 0x00 ∷ 0x01 ∷ 0x46 ∷ 0x04 ∷ 0x05 ∷ 0x01 ∷ 0x25 ∷ [])
+    ++ (0x0A ∷ 0x00 ∷ 0x05 ∷ 0x00 ∷ 0x01 ∷ 0x46 ∷ 0x04 ∷ 0x05 ∷ 0x01 ∷ 0x26 ∷ [])
     ++ (0x0A ∷ 0x00 ∷ 0x01 ∷ 0x00 ∷ 0x01 ∷ 0x44 ∷ 0x04 ∷ 0x05 ∷ 0x01 ∷ 0x01 ∷ [])
     ++ (0x0A ∷ 0x00 ∷ 0x01 ∷ 0x00 ∷ 0x01 ∷ 0x46 ∷ 0x04 ∷ 0x0D ∷ 0x01 ∷ 0x01 ∷ [])
     ++ (0x0A ∷ 0x00 ∷ 0x01 ∷ 0x00 ∷ 0x01 ∷ 0x46 ∷ 0x04 ∷ 0x05 ∷ 0x02 ∷ 0x01 ∷ [])

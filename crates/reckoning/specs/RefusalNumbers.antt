@@ -1,5 +1,5 @@
--- The numbers of the refusals: paper 01, "Numbered refusals", and paper 02, Q-3 and Q-4. Each name says what is wrong,
--- as in include/chiselbrow.h.
+-- The numbers of the refusals: paper 01, "Numbered refusals", and paper 02, Q-3, Q-4 and Q-7. Each name says what is
+-- wrong, as in include/chiselbrow.h.
 use Prim.Native.Nat.{ℕ}
 
 -- The input is too short to be a record.
@@ -41,3 +41,7 @@ STEP = 9
 -- The year has no such leap month.
 abbrev pub LEAP : ℕ
 LEAP = 10
+
+-- The kind is retired.
+abbrev pub RETIRED : ℕ
+RETIRED = 11

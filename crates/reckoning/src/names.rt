@@ -16,7 +16,7 @@ pub(crate) fn name_of(d: u64) -> u8
     requires { ⌜ d < 2 ^ 63 ⌝ }
     ensures { λ r. ⌜ r ≡ nameOf d ⌝ }
 {
-    ((d + 49) % 60) as u8
+    ((d + 49) % 60 + 1) as u8
 }
 
 // The names of `length` days from register day `head` on, and 255 after them.

@@ -1,5 +1,5 @@
-// The numbers of the refusals: paper 01, "Numbered refusals", and paper 02, Q-3 and Q-4. Each name says what is wrong,
-// as in include/chiselbrow.h; 0 is no refusal.
+// The numbers of the refusals: paper 01, "Numbered refusals", and paper 02, Q-3, Q-4 and Q-7. Each name says what is
+// wrong, as in include/chiselbrow.h; 0 is no refusal.
 pub const SHORT: u8 = 1;
 
 pub const KIND: u8 = 2;
@@ -19,3 +19,5 @@ pub const OUTPUT: u8 = 8;
 pub const STEP: u8 = 9;
 
 pub const LEAP: u8 = 10;
+
+pub const RETIRED: u8 = 11;

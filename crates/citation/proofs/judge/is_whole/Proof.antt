@@ -1,11 +1,10 @@
-use Prim.Native.Nat.{_+_, _*_}
 use mathlib.Core.Path.{ap, _∙_}
 use mathlib.Core.Bool.{not}
 use native.Mathlib.Omega.{arith}
-use lib.ListN.{length}
+use lib.Dec.{eqb}
 use Rattle.reckoning.specs.ComputedRefusals.{outside}
 use borrow.Author.Needs.{needs}
-use Rattle.citation.proofs.WholeRecord.{no-such-length, another-length, by-kind-and-length}
+use Rattle.citation.proofs.WholeRecord.{no-such-length, another-length, whole-of-nine, whole-of-one, whole-of-five}
 use Rattle.citation.proofs.judge.is_whole.Statement.{statement}
 use Rattle.citation.proofs.judge.is_whole.Tie as tie
 
@@ -49,24 +48,27 @@ shared-slice-read-le16-4 c = search needs
 le16-requires-2 : tie.Need-le16-requires-2
 le16-requires-2 c κs = search needs
 
-cast-outside : tie.Need-cast-outside
-cast-outside c = search needs
-
-mul-outside : tie.Need-mul-outside
-mul-outside c = search needs
-
-add-outside : tie.Need-add-outside
-add-outside c = search needs
-
 outside-requires : tie.Need-outside-requires
 outside-requires c κs = search needs
 
 returns-4 : tie.Need-returns-4
 returns-4 c =
-    let s = start (tested (field-right (c .before) .before)) .args .s .now in
+    let kind = c .before .before in
+    let s = start (tested (field-right kind .before)) .args .s .now in
     ap not (c .outside .ensures)
-    ∙ ap (λ kind. not (outside 21 22 (kind + 2 * length s))) (c .before .le162 .ensures .0)
-    ∙ by-kind-and-length s (record { at-least = omega arith; at-most = omega arith }) (omega arith)
+    ∙ ap (λ k. not (outside 3 4 k)) (kind .le162 .ensures .0)
+    ∙ whole-of-nine s (c .before .if4 .taken) (omega arith)
+
+returns-5 : tie.Need-returns-5
+returns-5 c =
+    let s = start (tested (field-right (c .before .before) .before)) .args .s .now in
+    whole-of-one s (omega arith) (omega arith) (omega arith)
+
+returns-6 : tie.Need-returns-6
+returns-6 c =
+    let kind = c .before .before in
+    let s = start (tested (field-right kind .before)) .args .s .now in
+    ap (λ k. eqb k 5) (kind .le162 .ensures .0) ∙ whole-of-five s (omega arith) (omega arith) (λ one. omega arith)
 
 pub is-whole-spec : {M : Type 1} → statement M
 is-whole-spec =
@@ -82,8 +84,7 @@ is-whole-spec =
     shared-slice-read-le16-3
     shared-slice-read-le16-4
     le16-requires-2
-    cast-outside
-    mul-outside
-    add-outside
     outside-requires
-    returns-4)
+    returns-4
+    returns-5
+    returns-6)

@@ -1,10 +1,11 @@
 use Prim.Native.Nat.{ℕ}
-use mathlib.Core.Path.{_≡_, refl}
+use mathlib.Core.Path.{_≡_, refl, sym, _∙_}
+use mathlib.Core.Logic.{_⊎_, inl, inr, ⊎-elim}
 use mathlib.Core.List.{List}
 use native.Mathlib.Omega.{arith}
-use Rattle.citation.specs.Record.{systemOf, yearField, monthField, leapField}
-use Rattle.citation.specs.JudgeParts.{Whole}
-use Rattle.citation.proofs.JudgementCases.{kind-one-or-two, kind-one, kind-two, kind-three, kind-four}
+use Rattle.citation.specs.Record.{kindOf, systemOf, yearField, monthField, leapField}
+use Rattle.citation.specs.CitationRefusals.{HasMonth}
+use Rattle.citation.proofs.JudgementCases.{kind-with-month, kind-one, kind-five, kind-three, kind-four}
 use borrow.Author.Needs.{needs}
 use Rattle.citation.proofs.judge.judge_kind.Statement.{statement}
 use Rattle.citation.proofs.judge.judge_kind.Tie as tie
@@ -26,6 +27,9 @@ by-month c = c .before .before .before
 abbrev start : tie.Then1 → tie.Start
 start c = c .before .before .before .before
 
+abbrev without-month : tie.Else1 → tie.Start
+without-month c = c .before .before .before .before
+
 abbrev bytes : tie.After-month → List ℕ
 bytes c = start (by-month (fields-read c)) .args .s .now
 
@@ -36,8 +40,18 @@ fields-known : (c : tie.After-month)
     × (c .before .wide3 .result ≡ leapField (bytes c))
 fields-known c = (omega arith, omega arith, omega arith, omega arith)
 
-kind-known : (c : tie.After-month) → let start = start (by-month (fields-read c)) in Whole (start .args .s .now) (start .args .kind)
-kind-known c = start (by-month (fields-read c)) .pre
+has-month : (c : tie.After-month) → HasMonth (bytes c)
+has-month c =
+    let known = start (by-month (fields-read c)) .pre in
+    ⊎-elim
+    (λ one. inl (sym (known .is-kind) ∙ one))
+    (λ five. inr (sym (known .is-kind) ∙ five))
+    (known .of-ten (by-month (fields-read c) .if1 .taken))
+
+three-or-four : (c : tie.Else1) → let k = without-month c .args .kind in (k ≡ 3) ⊎ (k ≡ 4)
+three-or-four c =
+    let known = without-month c .pre in
+    known .of-nine (omega (arith, known .nine-or-ten, c .if1 .left))
 
 shared-slice-read-wide : tie.Need-shared-slice-read-wide
 shared-slice-read-wide c = search needs
@@ -74,7 +88,7 @@ refuse-telling-requires c κs = search needs
 
 returns : tie.Need-returns
 returns c =
-    kind-one-or-two _ (omega arith) (omega (arith, kind-known (month-read (c .before)))) (month-read (c .before) .month .ensures)
+    kind-with-month _ (omega arith) (has-month (month-read (c .before))) (month-read (c .before) .month .ensures)
     (c .before .if2 .taken)
     (c .refuse-telling .ensures)
     (omega arith)
@@ -95,7 +109,8 @@ returns-2 c =
     let one = c .before .before .before in
     let month = month-found (one .before) in
     let fields = fields-known month in
-    kind-one _ (fields .0) (omega (arith, one .if3 .taken, kind-known month)) (c .judge-day .ensures)
+    let is-kind = start (by-month (fields-read month)) .pre .is-kind in
+    kind-one _ (fields .0) (sym is-kind ∙ one .if3 .taken) (c .judge-day .ensures)
     (fields .1)
     (fields .2)
     (fields .3)
@@ -109,10 +124,12 @@ judge-name-requires c κs = search needs
 
 returns-3 : tie.Need-returns-3
 returns-3 c =
-    let two = c .before .before in
-    let month = month-found (two .before) in
+    let five = c .before .before in
+    let month = month-found (five .before) in
     let fields = fields-known month in
-    kind-two _ (fields .0) (omega (arith, two .if3 .left, by-month (fields-read month) .if1 .taken, kind-known month)) (c .judge-name .ensures)
+    let is-kind = start (by-month (fields-read month)) .pre .is-kind in
+    let not-one : kindOf (bytes month) ≡ 1 → ⊥ = λ one. five .if3 .left (is-kind ∙ one) in
+    kind-five _ (fields .0) (⊎-elim (λ one. absurd (not-one one)) (λ k. k) (has-month month)) (c .judge-name .ensures)
     (fields .1)
     (fields .2)
     (fields .3)
@@ -164,7 +181,11 @@ judge-register-day-requires : tie.Need-judge-register-day-requires
 judge-register-day-requires c κs = search needs
 
 returns-5 : tie.Need-returns-5
-returns-5 c = kind-four _ (omega arith) (omega arith) (c .judge-register-day .ensures) (omega arith)
+returns-5 c =
+    let by-day = c .before .before .before .before .before .before in
+    let is-kind = without-month (by-day .before) .pre .is-kind in
+    let four = ⊎-elim (λ three. absurd (by-day .if4 .left three)) (λ k. k) (three-or-four (by-day .before)) in
+    kind-four _ (omega arith) (sym is-kind ∙ four) (c .judge-register-day .ensures) (omega arith)
 
 pub judge-kind-spec : {M : Type 1} → statement M
 judge-kind-spec =

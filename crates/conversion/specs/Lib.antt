@@ -1,0 +1,3 @@
+-- The conversion of records of the retired kind 2.
+-- What it refuses, answers and writes, for every input and output.
+pub mod Conversion
