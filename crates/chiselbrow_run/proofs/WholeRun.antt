@@ -10,8 +10,7 @@ use Rattle.text.specs.Piece.{refusedLine}
 use Rattle.framing.specs.Run.{inputOf, EndsThere}
 use Rattle.framing.proofs.Framed.{two-bytes}
 use Rattle.framing.proofs.WholeRun.{run-is-whole}
-use Rattle.lines.specs.Program.{endingOf, outputOf}
-use Rattle.chiselbrow_run.specs.Turn.{lineWriter}
+use Rattle.lines.specs.Program.{endingOf, outputOf, lineWriter}
 use Rattle.chiselbrow_run.specs.Run.{runOf}
 
 -- Where a byte is left, the ending is one line;

@@ -2,7 +2,7 @@
 use Prim.Native.Nat.{ℕ}
 use mathlib.Core.List.{List}
 use Rattle.framing.specs.Run.{runBy}
-use Rattle.chiselbrow_run.specs.Turn.{lineWriter}
+use Rattle.lines.specs.Program.{lineWriter}
 
 abbrev pub runOf : List ℕ → List (List ℕ) → List ℕ
 runOf kept reads = runBy lineWriter kept reads

@@ -2,18 +2,13 @@
 use Prim.Native.Nat.{ℕ, _-_, _≤_, _<_}
 use mathlib.Core.Path.{_≡_}
 use mathlib.Core.Bool.{Bool, true, not}
-use mathlib.Core.List.{List, []}
+use mathlib.Core.List.{List}
 use lib.ListN.{length}
 use Rattle.framing.specs.Framing.{restOf}
 use Rattle.framing.specs.Buffer.{atFront}
-use Rattle.framing.specs.Run.{Writer, stops, turnBy}
-use Rattle.lines.specs.Line.{lineOf}
-use Rattle.lines.specs.Program.{endingOf}
+use Rattle.framing.specs.Run.{stops, turnBy}
+use Rattle.lines.specs.Program.{lineWriter}
 use Rattle.chiselbrow_run.specs.declared.turn.Turn.{Turn}
-
--- A line for each record, the ending where the run stops, and nothing after that.
-abbrev pub lineWriter : Writer
-lineWriter = record { of = lineOf; ending = endingOf; after = λ t. [] }
 
 -- The lines of the records, and where the run stops the line for what is left.
 abbrev pub turnText : Bool → List ℕ → List ℕ

@@ -1,13 +1,15 @@
 -- However the input comes in pieces, a run writes what is to be written of the whole of it.
 use Prim.Native.Nat.{ℕ}
 use mathlib.Core.Path.{_≡_, refl, ap, ap₂, sym, _∙_}
-use mathlib.Core.Bool.{Bool, true, cond}
+use mathlib.Core.Bool.{Bool, true, false, cond}
 use mathlib.Core.List.{List, [], _∷_, _++_, append-assoc, append-nil}
+use lib.ListN.{take, drop}
 use Rattle.calendar.proofs.Cases.{by-bool}
-use Rattle.framing.specs.Framing.{misframed, Framing, framing, restOf}
+use Rattle.citation.specs.Record.{lengthField}
+use Rattle.framing.specs.Framing.{misframed, framed, Framing, framing, restOf}
 use Rattle.framing.specs.Run.{Writer, textOf, wholeBy, turnBy, inputOf, runBy, EndsThere}
 use Rattle.framing.proofs.Framed.{still-misframed}
-use Rattle.framing.proofs.Cutting.{framing-none, framing-append}
+use Rattle.framing.proofs.Cutting.{framing-none, framing-more, framing-append}
 
 pub text-append : (of : List ℕ → List ℕ) (a b : List (List ℕ)) → textOf of (a ++ b) ≡ textOf of a ++ textOf of b
 unfolding textOf
@@ -17,6 +19,19 @@ text-append of (r ∷ a) b = ap (λ t. of r ++ t) (text-append of a b) ∙ sym (
 module _ (w : Writer) where
   abbrev written : Framing → List ℕ
   written f = textOf (w .of) (f .records) ++ w .ending (f .rest)
+
+  -- What is written of an input goes record by record.
+  pub whole-none : (s : List ℕ) → framed s ≡ false → wholeBy w s ≡ w .ending s
+  unfolding textOf
+  whole-none s e = ap written (framing-none s e)
+
+  pub whole-more : (s : List ℕ) → framed s ≡ true
+      → wholeBy w s ≡ w .of (take (lengthField s) s) ++ wholeBy w (drop (lengthField s) s)
+  unfolding textOf
+  whole-more s e =
+      let others = framing (drop (lengthField s) s) in
+      ap written (framing-more s e)
+      ∙ append-assoc (w .of (take (lengthField s) s)) (textOf (w .of) (others .records)) (w .ending (others .rest))
 
   abbrev records-of : List ℕ → List ℕ
   records-of s = textOf (w .of) (framing s .records)
@@ -31,8 +46,7 @@ module _ (w : Writer) where
 
   module _ (ends : EndsThere w) where
     stops-there : (r t : List ℕ) → misframed r ≡ true → wholeBy w (r ++ t) ≡ w .ending r ++ w .after t
-    unfolding textOf
-    stops-there r t bad = ap written (framing-none (r ++ t) (still-misframed r t bad)) ∙ ends r t bad
+    stops-there r t bad = whole-none (r ++ t) (still-misframed r t bad) ∙ ends r t bad
 
     run-from : (kept : List ℕ) (reads : List (List ℕ)) → runBy w kept reads ≡ wholeBy w (kept ++ inputOf reads)
     unfolding runBy inputOf turnBy

@@ -2,7 +2,7 @@
 use Prim.Native.Nat.{ℕ, _-_, _≤_, _<_}
 use mathlib.Core.Path.{_≡_, refl, ap, _∙_}
 use mathlib.Core.Bool.{true, false, cond}
-use mathlib.Core.List.{List, [], _∷_, _++_, append-assoc}
+use mathlib.Core.List.{List, [], _∷_, _++_}
 use native.Mathlib.Omega.{arith}
 use lib.ListN.{length, take, drop}
 use lib.Seq.{length-take-le}
@@ -10,27 +10,20 @@ use borrow.Author.Tests.{le-leb, lt-leb, ne-eqb}
 use Rattle.reckoning.specs.RefusalNumbers.{SHORT}
 use Rattle.citation.specs.Record.{lengthField}
 use Rattle.text.specs.Piece.{refusedLine}
-use Rattle.framing.specs.Framing.{framed, Framing, framingWithin, framing}
+use Rattle.framing.specs.Framing.{framed, framingWithin}
 use Rattle.framing.specs.Run.{textOf}
 use Rattle.framing.proofs.Framed.{framed-is}
 use Rattle.framing.proofs.Cutting.{framing-none, framing-more}
+use Rattle.framing.proofs.WholeRun.{whole-none, whole-more}
 use Rattle.lines.specs.Line.{lineOf}
-use Rattle.lines.specs.Program.{linesOf, endingOf, outputOf, noPortion, portionThen, portion, portionOf}
+use Rattle.lines.specs.Program.{lineWriter, outputOf, noPortion, portionThen, portion, portionOf}
 
 -- The program's output.
-abbrev written : Framing → List ℕ
-written f = linesOf (f .records) ++ endingOf (f .rest)
-
 pub output-line : (s : List ℕ) → framed s ≡ true → outputOf s ≡ lineOf (take (lengthField s) s) ++ outputOf (drop (lengthField s) s)
-unfolding textOf
-output-line s e =
-    let others = framing (drop (lengthField s) s) in
-    ap written (framing-more s e)
-    ∙ append-assoc (lineOf (take (lengthField s) s)) (linesOf (others .records)) (endingOf (others .rest))
+output-line = whole-more lineWriter
 
 pub output-stop : (s : List ℕ) → 0 < length s → framed s ≡ false → outputOf s ≡ refusedLine SHORT
-unfolding textOf
-output-stop s some e = ap written (framing-none s e) ∙ simp (ne-eqb (length s) 0 (λ z. omega arith))
+output-stop s some e = whole-none lineWriter s e ∙ simp (ne-eqb (length s) 0 (λ z. omega arith))
 
 pub output-nothing : outputOf [] ≡ []
 unfolding textOf framingWithin

@@ -7,7 +7,7 @@ use lib.Dec.{leb, eqb}
 use lib.ListN.{length, drop}
 use Rattle.reckoning.specs.RefusalNumbers.{SHORT}
 use Rattle.framing.specs.Framing.{framing, nextOf}
-use Rattle.framing.specs.Run.{textOf}
+use Rattle.framing.specs.Run.{Writer, textOf}
 use Rattle.lines.specs.declared.convert.Progress.{Progress}
 use Rattle.text.specs.Piece.{refusedLine}
 use Rattle.lines.specs.Line.{lineOf}
@@ -23,6 +23,10 @@ endingOf rest = cond (eqb (length rest) 0) [] (refusedLine SHORT)
 -- What the program writes on input s.
 abbrev pub outputOf : List ℕ → List ℕ
 outputOf s = linesOf (framing s .records) ++ endingOf (framing s .rest)
+
+-- So does a run, and it writes nothing of what it reads after that.
+abbrev pub lineWriter : Writer
+lineWriter = record { of = lineOf; ending = endingOf; after = λ bytes. [] }
 
 -- The first records of a buffer: how many bytes they have, and their lines.
 pub record Portion : Type 0 where

@@ -1,0 +1,5 @@
+-- Laws that serve several functions.
+-- The loop over a buffer.
+pub mod Renewing
+-- The output has as many bytes as the input.
+pub mod SameLength

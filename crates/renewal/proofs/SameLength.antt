@@ -1,0 +1,26 @@
+-- What is renewed has as many bytes as it had.
+use Prim.Native.Nat.{ℕ}
+use mathlib.Core.Path.{_≡_, refl, ap, ap₂, sym, _∙_}
+use mathlib.Core.List.{List, [], _∷_}
+use lib.ListN.{length, length-append}
+use Prim.Native.Nat.{_+_}
+use Rattle.conversion.specs.Conversion.{renewed}
+use Rattle.conversion.proofs.Ends.{renewed-length}
+use Rattle.framing.specs.Framing.{framing, restOf}
+use Rattle.framing.specs.Run.{textOf}
+use Rattle.framing.proofs.Rest.{rest-length}
+use Rattle.renewal.specs.Renewal.{renewedOf}
+
+records-length : (records : List (List ℕ)) → length (textOf renewed records) ≡ length (textOf (λ r. r) records)
+unfolding textOf
+records-length [] = refl
+records-length (r ∷ records) =
+    length-append (renewed r) (textOf renewed records)
+    ∙ ap₂ _+_ (renewed-length r) (records-length records)
+    ∙ sym (length-append r (textOf (λ x. x) records))
+
+pub same-length : (s : List ℕ) → length (renewedOf s) ≡ length s
+same-length s =
+    length-append (textOf renewed (framing s .records)) (restOf s)
+    ∙ ap (λ n. n + length (restOf s)) (records-length (framing s .records))
+    ∙ sym (rest-length s)
