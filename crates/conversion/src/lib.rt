@@ -15,7 +15,7 @@ use reckoning::refusal_numbers::SHORT;
 const REFUSAL_UNIT: u64 = 4_294_967_296;
 
 // The refusal of a record by its bytes, 0 where there is none. What it cites is left to the storing step.
-fn refusal(s: &[u8]) -> u8
+pub fn refusal(s: &[u8]) -> u8
     ensures { λ r. ⌜ r ≡ conversionRefusal (now (s .entry)) ⌝ }
 {
     if s.len() < 4 {

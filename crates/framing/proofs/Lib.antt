@@ -5,6 +5,8 @@ pub mod Framed
 pub mod Cutting
 -- What is left after the records.
 pub mod Rest
+-- Records written anew.
+pub mod Again
 -- Bytes moved to the front of their buffer.
 pub mod Moving
 -- A step that reads.

@@ -3,3 +3,5 @@
 pub mod Renewing
 -- The output has as many bytes as the input.
 pub mod SameLength
+-- The output, read again.
+pub mod ReadAgain

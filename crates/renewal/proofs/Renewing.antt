@@ -15,9 +15,9 @@ use Rattle.framing.proofs.Framed.{Next, next-is, next-none}
 use Rattle.framing.proofs.Cutting.{framing-none, framing-more}
 use Rattle.framing.proofs.WholeRun.{whole-none, whole-more}
 use Rattle.renewal.specs.declared.Renewal.{Renewal}
-use Rattle.renewal.specs.Renewal.{renewer, renewedOf, anyLeft, renewalOf}
+use Rattle.renewal.specs.Renewal.{renewer, renewedOf, anyRefused, renewalOf}
 
--- Whether a record was left, by what is told of each.
+-- Whether a record was refused, by whether each was.
 pub or-nothing : (a : Bool) → a || false ≡ a
 or-nothing true = refl
 or-nothing false = refl
@@ -31,19 +31,19 @@ or-assoc true b c = refl
 or-assoc false b c = refl
 
 -- So far a buffer was renewed: up to a place, where the record of n bytes is next. The rest is still to be renewed.
-pub record Renewing (s b : List ℕ) (at : ℕ) (left : Bool) (n : ℕ) : Type 0 where
+pub record Renewing (s b : List ℕ) (at : ℕ) (refused : Bool) (n : ℕ) : Type 0 where
   pub at-within : at ≤ length b
   pub same-length : length b ≡ length s
   pub next : n ≡ nextOf b at
   pub so-far : renewedOf s ≡ take at b ++ renewedOf (drop at b)
   pub rest-ahead : restOf s ≡ restOf (drop at b)
-  pub left-so-far : anyLeft (framing s .records) ≡ left || anyLeft (framing (drop at b) .records)
+  pub refused-so-far : anyRefused (framing s .records) ≡ refused || anyRefused (framing (drop at b) .records)
 
 pub renewing-starts : {n : ℕ} (s : List ℕ) → n ≡ nextOf s 0 → Renewing s s 0 false n
 renewing-starts s next =
-    record { at-within = omega arith; same-length = refl; next = next; so-far = refl; rest-ahead = refl; left-so-far = refl }
+    record { at-within = omega arith; same-length = refl; next = next; so-far = refl; rest-ahead = refl; refused-so-far = refl }
 
-module _ {s b : List ℕ} {at n : ℕ} {left : Bool} (κ : Renewing s b at left n) (some : n ≡ 0 → ⊥) where
+module _ {s b : List ℕ} {at n : ℕ} {refused : Bool} (κ : Renewing s b at refused n) (some : n ≡ 0 → ⊥) where
   here : Next b at n
   here = next-is b at n (κ .next) some
 
@@ -97,12 +97,12 @@ module _ {s b : List ℕ} {at n : ℕ} {left : Bool} (κ : Renewing s b at left 
     pub less-left : length after - (at + n) < length b - at
     less-left = omega (arith, here .at-least, record-within, after-length)
 
-    pub renewing-more : {left′ : Bool} {n′ : ℕ} {refusal : ℕ} → refusal ≡ leftWith (take (at + n - at) (drop at b))
-        → left′ ≡ left || not (eqb refusal 0)
+    pub renewing-more : {refused′ : Bool} {n′ : ℕ} {refusal : ℕ} → refusal ≡ leftWith (take (at + n - at) (drop at b))
+        → refused′ ≡ refused || not (eqb refusal 0)
         → n′ ≡ nextOf after (at + n)
-        → Renewing s after (at + n) left′ n′
-    unfolding anyLeft
-    renewing-more {left′} {n′} {refusal} refused told next =
+        → Renewing s after (at + n) refused′ n′
+    unfolding anyRefused
+    renewing-more {refused′} {n′} {refusal} answered told next =
         let f = drop at b in
         let cut = framing-more f (here .is-framed) in
         let record-is : take (lengthField f) f ≡ take n f = ap (λ k. take k f) (sym (here .is-length)) in
@@ -116,18 +116,18 @@ module _ {s b : List ℕ} {at n : ℕ} {left : Bool} (κ : Renewing s b at left 
               ∙ sym (append-assoc (take at b) p (renewedOf (drop (at + n) after)))
               ∙ ap (λ t. t ++ renewedOf (drop (at + n) after)) (sym front);
           rest-ahead = κ .rest-ahead ∙ ap (λ x. x .rest) cut ∙ ap restOf ahead;
-          left-so-far = κ .left-so-far
-              ∙ ap (λ x. left || anyLeft (x .records)) cut
-              ∙ ap₂ (λ r t. left || (not (eqb (leftWith r) 0) || anyLeft (framing t .records))) record-is ahead
-              ∙ or-assoc left (not (eqb (leftWith (take n f)) 0)) (anyLeft (framing (drop (at + n) after) .records))
+          refused-so-far = κ .refused-so-far
+              ∙ ap (λ x. refused || anyRefused (x .records)) cut
+              ∙ ap₂ (λ r t. refused || (not (eqb (leftWith r) 0) || anyRefused (framing t .records))) record-is ahead
+              ∙ or-assoc refused (not (eqb (leftWith (take n f)) 0)) (anyRefused (framing (drop (at + n) after) .records))
               ∙ ap
-              (λ k. (left || not (eqb k 0)) || anyLeft (framing (drop (at + n) after) .records))
-              (ap (λ k. leftWith (take k f)) (sym same) ∙ sym refused)
-              ∙ ap (λ l. l || anyLeft (framing (drop (at + n) after) .records)) (sym told);
+              (λ k. (refused || not (eqb k 0)) || anyRefused (framing (drop (at + n) after) .records))
+              (ap (λ k. leftWith (take k f)) (sym same) ∙ sym answered)
+              ∙ ap (λ l. l || anyRefused (framing (drop (at + n) after) .records)) (sym told);
         }
 
 -- Where no record is next, all is renewed.
-module _ {s b : List ℕ} {at n : ℕ} {left : Bool} (κ : Renewing s b at left n) (none : n ≡ 0) where
+module _ {s b : List ℕ} {at n : ℕ} {refused : Bool} (κ : Renewing s b at refused n) (none : n ≡ 0) where
   no-record : framed (drop at b) ≡ false
   no-record = next-none b at (sym (κ .next) ∙ none)
 
@@ -135,15 +135,18 @@ module _ {s b : List ℕ} {at n : ℕ} {left : Bool} (κ : Renewing s b at left 
   all-renewed =
       sym (κ .so-far ∙ ap (λ t. take at b ++ t) (whole-none renewer (drop at b) no-record) ∙ take-append-drop at b)
 
-  pub renewal-is : record { read = at; left = left } ≡ renewalOf s
-  unfolding renewalOf anyLeft
+  none-ahead : restOf s ≡ drop at b
+  none-ahead = κ .rest-ahead ∙ ap (λ x. x .rest) (framing-none (drop at b) no-record)
+
+  refused-is : refused ≡ anyRefused (framing s .records)
+  unfolding anyRefused
+  refused-is =
+      sym (κ .refused-so-far ∙ ap (λ x. refused || anyRefused (x .records)) (framing-none (drop at b) no-record) ∙ or-nothing refused)
+
+  pub renewal-is : record { read = at; refused = refused } ≡ renewalOf s
+  unfolding renewalOf
   renewal-is =
-      let cut = framing-none (drop at b) no-record in
-      let rest-is : restOf s ≡ drop at b = κ .rest-ahead ∙ ap (λ x. x .rest) cut in
       let read-is : at ≡ length s - length (restOf s) =
-      omega (arith, ap length rest-is, length-drop at b, κ .at-within, κ .same-length)
+      omega (arith, ap length none-ahead, length-drop at b, κ .at-within, κ .same-length)
       in
-      let left-is : left ≡ anyLeft (framing s .records) =
-      sym (κ .left-so-far ∙ ap (λ x. left || anyLeft (x .records)) cut ∙ or-nothing left)
-      in
-      λ i. record { read = read-is i; left = left-is i }
+      λ i. record { read = read-is i; refused = refused-is i }

@@ -16,11 +16,11 @@ renewer = record { of = renewed; ending = λ rest. rest; after = λ bytes. bytes
 abbrev pub renewedOf : List ℕ → List ℕ
 renewedOf s = wholeBy renewer s
 
--- A record of kind 2 was left as it was.
-unfoldable pub anyLeft : List (List ℕ) → Bool
-anyLeft [] = false
-anyLeft (r ∷ records) = not (eqb (leftWith r) 0) || anyLeft records
+-- A record of kind 2 was refused, and left as it was.
+unfoldable pub anyRefused : List (List ℕ) → Bool
+anyRefused [] = false
+anyRefused (r ∷ records) = not (eqb (leftWith r) 0) || anyRefused records
 
--- How many bytes the records have, and whether one of kind 2 was left.
+-- How many bytes the records have, and whether one of kind 2 was refused.
 unfoldable pub renewalOf : List ℕ → Renewal
-renewalOf s = record { read = length s - length (restOf s); left = anyLeft (framing s .records) }
+renewalOf s = record { read = length s - length (restOf s); refused = anyRefused (framing s .records) }

@@ -7,10 +7,10 @@ use Rattle.renewal.proofs.renew.Statement.{statement}
 use Rattle.renewal.proofs.renew.Tie as tie
 
 abbrev Inv-loop : tie.InvT-loop
-Inv-loop buffer₀ offset at₀ left₀ n₀ buffer at left n = Renewing buffer₀ buffer at left n
+Inv-loop buffer₀ at₀ refused₀ n₀ buffer at refused n = Renewing buffer₀ buffer at refused n
 
 abbrev μ-loop : tie.MeasureT-loop
-μ-loop buffer₀ offset at₀ left₀ n₀ buffer at left n = length buffer - at
+μ-loop buffer₀ at₀ refused₀ n₀ buffer at refused n = length buffer - at
 
 next-requires : tie.Need-next-requires Inv-loop μ-loop
 next-requires c κs = search needs
@@ -33,28 +33,25 @@ part-renew-end c = search record-within
 renew-requires : tie.Need-renew-requires Inv-loop μ-loop
 renew-requires c κs = search needs
 
-wrapping-add-u64-requires : tie.Need-wrapping-add-u64-requires Inv-loop μ-loop
-wrapping-add-u64-requires c κs = search needs
-
-tell-requires : tie.Need-tell-requires Inv-loop μ-loop
-tell-requires c κs = search needs
+or-refused-requires : tie.Need-or-refused-requires Inv-loop μ-loop
+or-refused-requires c κs = search needs
 
 next-requires-2 : tie.Need-next-requires-2 Inv-loop μ-loop
 next-requires-2 c κs = search needs
 
 loop-less : tie.Need-loop-less Inv-loop μ-loop
 loop-less c =
-    let renewed = c .before .before .before .before .before .before in
+    let renewed = c .before .before .before .before .before in
     let turn = renewed .before .before in
     less-left (turn .before .loop .inv) (turn .loop-test .taken) (renewed .renew .ensures .1)
 
 loop-again : tie.Need-loop-again Inv-loop μ-loop
 loop-again c =
     let told = c .before .before in
-    let renewed = told .before .before .before .before in
+    let renewed = told .before .before .before in
     let turn = renewed .before .before in
     renewing-more (turn .before .loop .inv) (turn .loop-test .taken) (renewed .renew .ensures .1)
-    (renewed .renew .ensures .0) (told .tell .ensures) (c .next2 .ensures)
+    (renewed .renew .ensures .0) (told .or-refused .ensures) (c .next2 .ensures)
 
 same-length : tie.Need-same-length Inv-loop μ-loop
 same-length c = search needs
@@ -75,8 +72,7 @@ renew-spec =
     part-renew-start
     part-renew-end
     renew-requires
-    wrapping-add-u64-requires
-    tell-requires
+    or-refused-requires
     next-requires-2
     loop-less
     loop-again
