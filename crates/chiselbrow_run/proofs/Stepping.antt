@@ -1,13 +1,12 @@
 -- A step, from its turn.
 use Prim.Native.Nat.{ℕ, _+_, _≤_, _<_}
 use mathlib.Core.Path.{_≡_, ap, ap₂, sym, subst, _∙_}
-use mathlib.Core.Bool.{Bool, true, false, cond, not}
+use mathlib.Core.Bool.{Bool, true, false, not}
 use mathlib.Core.List.{List, [], _++_}
 use native.Mathlib.Omega.{arith}
 use lib.ListN.{length, take, length-append}
 use lib.Dec.{eqb}
-use borrow.Author.Tests.{not-false, ne-eqb}
-use Rattle.process.specs.Exit.{answered, failed}
+use borrow.Author.Tests.{not-false}
 use Rattle.framing.proofs.Stepping as steps
 use Rattle.chiselbrow_run.specs.declared.turn.Turn.{Turn}
 use Rattle.chiselbrow_run.specs.declared.Step.{Step}
@@ -48,7 +47,3 @@ read-step {after} {r} kept count input part tail short room l =
 -- Where the run goes on, the next read has room.
 pub room-left : {kept after : List ℕ} {r : Step} → ReadAndAnswered kept after r → not (r .more) ≡ false → r .left < 64
 room-left read goes-on = read .holds .left-short (not-false _ goes-on)
-
--- A run that stops with bytes left has failed.
-pub stop-fails : (left : ℕ) → (left ≡ 0 → ⊥) → failed ≡ cond (eqb left 0) answered failed
-stop-fails left some = simp (ne-eqb left 0 some)
