@@ -78,6 +78,7 @@ pub record Next (s : List ℕ) (at n : ℕ) : Type 0 where
   pub is-length : n ≡ lengthField (drop at s)
   pub at-least : 4 ≤ n
   pub all-there : n ≤ length (drop at s)
+  pub within : at + n ≤ length s
 
 pub next-is : (s : List ℕ) (at n : ℕ) → n ≡ nextOf s at → (n ≡ 0 → ⊥) → Next s at n
 unfolding nextOf
@@ -91,8 +92,15 @@ next-is s at n e some =
       is-length = is-length;
       at-least = omega (arith, f .at-least);
       all-there = omega (arith, f .all-there);
+      within = omega (arith, f .at-least, f .all-there, length-drop at s);
     })
     (λ q. absurd (some (e ∙ simp q)))
+
+pub next-within : {n : ℕ} (s : List ℕ) (at : ℕ) → n ≡ nextOf s at → (n ≡ 0 → ⊥) → at + n ≤ length s
+next-within s at e some = next-is s at _ e some .within
+
+pub less-ahead : {n : ℕ} (s : List ℕ) (at : ℕ) → n ≡ nextOf s at → (n ≡ 0 → ⊥) → length s - (at + n) < length s - at
+less-ahead s at e some = let here = next-is s at _ e some in omega (arith, here .at-least, here .within)
 
 -- Where it gives 0, none is there.
 pub next-none : (s : List ℕ) (at : ℕ) → nextOf s at ≡ 0 → framed (drop at s) ≡ false

@@ -4,7 +4,7 @@ use mathlib.Core.Path.{_≡_, refl, ap, ap₂, sym, subst, _∙_}
 use mathlib.Core.Bool.{Bool, true, false, true≢false, not, _||_}
 use mathlib.Core.List.{List, _++_, append-assoc}
 use native.Mathlib.Omega.{arith}
-use lib.ListN.{length, take, drop}
+use lib.ListN.{length, take, drop, length-append}
 use lib.Dec.{eqb}
 use lib.Seq.{take-add, take-at, drop-at, take-append-le, length-take-le}
 use Rattle.framing.specs.Framing.{misframed, restOf}
@@ -44,6 +44,19 @@ rest-in-front s tail =
     let rest = restOf s in
     ap (take (length rest)) (append-assoc rest (drop (length rest) s) tail)
     ∙ take-at rest (drop (length rest) s ++ tail) (length rest) refl
+
+-- A step on the front of a buffer leaves the rest of it.
+pub in-front : {ended failed more : Bool} {s after : List ℕ} {left read : ℕ} (tail : List ℕ) → Stepped ended s after failed more left read
+    → Stepped ended s (after ++ tail) failed more left read
+in-front {after = after} {left = left} tail stepped =
+    record {
+      left-within = omega (arith, stepped .left-within, length-append after tail);
+      goes-on = stepped .goes-on;
+      left-is = stepped .left-is;
+      read-is = stepped .read-is;
+      rest-in-front = λ e. take-append-le left after tail (stepped .left-within) ∙ stepped .rest-in-front e;
+      left-short = stepped .left-short;
+    }
 
 -- A step that reads, from what the read left in the rest of the buffer.
 pub read-step : {Holds : Bool → List ℕ → Type 0} (kept count : ℕ) (buffer part tail : List ℕ) → kept ≤ length buffer → count ≤ length part

@@ -70,10 +70,6 @@ module _ (s out out′ : List ℕ) (read written written′ size n : ℕ) (room 
       ∙ drop-drop (written′ - written) written before
       ∙ ap (λ k. drop k before) on
 
--- The record lies within the buffer.
-read-inside : (s : List ℕ) (read n : ℕ) → Next s read n → read ≤ length s → read + n ≤ length s
-read-inside s read n here h = omega (arith, here .all-there, length-drop read s)
-
 -- Where no record is next, nothing more is taken.
 nothing-next : (s : List ℕ) (at size : ℕ) → nextWithRoom s at size ≡ 0 → portionOf (drop at s) size ≡ noPortion
 nothing-next s at size e =
@@ -129,7 +125,7 @@ module _ {input before out : List ℕ} {read written n : ℕ} (κ : Converting i
 
   -- The next record lies within the buffer, and its line has room.
   pub record-within : read + n ≤ length input
-  record-within = read-inside input read n (here .1) (κ .read-within)
+  record-within = here .1 .within
 
   pub line-has-room : written + 64 ≤ length out
   line-has-room = omega (arith, here .0, κ .written-within, κ .same-length)

@@ -48,7 +48,7 @@ module _ {s b : List ℕ} {at n : ℕ} {refused : Bool} (κ : Renewing s b at re
   here = next-is b at n (κ .next) some
 
   pub record-within : at + n ≤ length b
-  record-within = omega (arith, here .all-there, length-drop at b, κ .at-within)
+  record-within = here .within
 
   module _ {p : List ℕ} (is : p ≡ renewed (take (at + n - at) (drop at b))) where
     -- the buffer with the record renewed, and what is ahead in it

@@ -11,7 +11,7 @@ use Rattle.framing.specs.Run.{textOf}
 use Rattle.framing.proofs.Rest.{rest-length}
 use Rattle.renewal.specs.Renewal.{renewedOf}
 
-records-length : (records : List (List ℕ)) → length (textOf renewed records) ≡ length (textOf (λ r. r) records)
+pub records-length : (records : List (List ℕ)) → length (textOf renewed records) ≡ length (textOf (λ r. r) records)
 unfolding textOf
 records-length [] = refl
 records-length (r ∷ records) =
