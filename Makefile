@@ -15,16 +15,17 @@ functions := $(shell sed -n '/SH NAME/,/SH SYNOPSIS/p' man/chiselbrow.3 | grep -
 library = build/libchiselbrow.a
 shared = build/libchiselbrow.so.$(version)
 soname = libchiselbrow.so.$(firstword $(subst ., ,$(version)))
-programs = build/chiselbrow build/almanac
+programs = build/chiselbrow build/chiselbrow-renew build/almanac
 # The toolchain's own C code, beside rt: what the programs call of the system.
 system := $(dir $(shell readlink -f "$$(command -v rt)"))../lib/libos_c.a
-test_tools = build/independent build/store_check build/null_check build/builders build/incident build/feed build/faults.so
-bench_tools = build/bench build/bench_heads build/c_program build/c_compare build/c_pentads
+test_tools = build/independent build/store_check build/convert_check build/null_check build/builders build/incident \
+             build/feed build/faults.so
+bench_tools = build/bench build/bench_heads build/c_program build/c_renew build/c_compare build/c_pentads
 # The longest first, so that two at a time end together.
-tests = tests/mixups.sh tests/program.sh tests/every_day.sh tests/every_year.sh tests/pipes.sh tests/damaged.sh \
-        tests/every_comparison.sh tests/every_pentad.sh tests/faults.sh tests/cases.sh tests/descriptors.sh \
-        tests/arguments.sh tests/manual.sh tests/install.sh tests/shared.sh tests/shared.py tests/header.sh \
-        tests/host.sh tests/printed_heads.sh build/null_check build/builders build/incident
+tests = tests/mixups.sh tests/program.sh tests/every_day.sh tests/convert.sh tests/renew.sh tests/every_year.sh \
+        tests/pipes.sh tests/damaged.sh tests/every_comparison.sh tests/every_pentad.sh tests/faults.sh tests/cases.sh \
+        tests/descriptors.sh tests/arguments.sh tests/manual.sh tests/install.sh tests/shared.sh tests/shared.py \
+        tests/header.sh tests/host.sh tests/printed_heads.sh build/null_check build/builders build/incident
 crates := crates.txt $(shell find crates -name must-fail -prune -o -type f -print)
 
 # Two runs of rt at a time would share target/.
@@ -46,7 +47,7 @@ test: all test-tools
 	@printf '%s\n' $(tests) | xargs -P 2 -I % sh -c '% || { echo "% failed" >&2; exit 255; }'
 	@rt ci
 
-# The storing step, heads and the programs, beside C written by hand.
+# The storing step, the conversion, heads and the programs, beside C written by hand.
 bench: all $(bench_tools)
 	@bench/run.sh
 
@@ -74,7 +75,7 @@ install: all
 	ln -sf $(notdir $(shared)) $(root)/lib/$(soname)
 	ln -sf $(soname) $(root)/lib/libchiselbrow.so
 	install -m 755 $(programs) build/store $(root)/bin
-	install -m 644 man/chiselbrow.1 man/almanac.1 $(root)/share/man/man1
+	install -m 644 man/chiselbrow.1 man/chiselbrow-renew.1 man/almanac.1 $(root)/share/man/man1
 	install -m 644 man/chiselbrow.3 $(root)/share/man/man3
 	for function in $(functions); do \
 	    echo '.so man3/chiselbrow.3' > $(root)/share/man/man3/$$function.3 || exit 1; \
@@ -88,10 +89,10 @@ clean:
 build:
 	mkdir -p build
 
-# What the runs of both programs stand on.
+# What the runs of the programs stand on.
 build/proved: $(crates) | build
 	@echo "proving the libraries (what the prover says: build/proved.log)"
-	@rt check lines pages comparison_pages arguments process < /dev/null > build/proved.log 2>&1 || \
+	@rt check lines conversion pages comparison_pages arguments process < /dev/null > build/proved.log 2>&1 || \
 	    { cat build/proved.log >&2; exit 1; }
 	@touch $@
 
@@ -101,8 +102,9 @@ build/lib%.a: $(crates) | build
 	@rt staticlib $* < /dev/null > build/$*.log 2>&1 || { cat build/$*.log >&2; exit 1; }
 	@cp target/staticlib/lib$*.a $@
 
-$(library): build/libcitation.a
-	cp $< $@
+# The storing step and the conversion, each an object.
+$(library): build/libcitation.a build/libconversion.a
+	cd build && ar x libcitation.a && ar x libconversion.a && ar rcs $(notdir $@) citation.o conversion.o
 
 # It needs no other library, and exports what the list says. The links are those that install makes.
 $(shared): $(library) chiselbrow.map include/chiselbrow.h
@@ -111,8 +113,12 @@ $(shared): $(library) chiselbrow.map include/chiselbrow.h
 	ln -sf $(notdir $@) build/$(soname)
 	ln -sf $(soname) build/libchiselbrow.so
 
-$(programs): build/%: cli/%.c include/chiselbrow.h build/lib%_run.a
-	$(CC) $(CFLAGS) -Iinclude -o $@ $< build/lib$*_run.a $(system)
+build/chiselbrow: build/libchiselbrow_run.a
+build/chiselbrow-renew: build/librenew_run.a
+build/almanac: build/libalmanac_run.a
+
+$(programs): build/%: cli/%.c include/chiselbrow.h
+	$(CC) $(CFLAGS) -Iinclude -o $@ $(filter %.c,$^) $(filter %.a,$^) $(system)
 
 build/store: examples/store.c include/chiselbrow.h $(library)
 	$(CC) $(CFLAGS) -Iinclude -o $@ $< $(library)
@@ -123,8 +129,10 @@ build/independent: $(wildcard tests/independent/*.rs) | build
 build/null_check: tests/null.c include/chiselbrow.h $(library)
 	$(CC) $(CFLAGS) -Iinclude -o $@ $< $(library)
 
-build/store_check build/builders build/incident: build/%: tests/%.c include/chiselbrow.h $(library)
+build/store_check build/convert_check build/builders build/incident: build/%: tests/%.c include/chiselbrow.h $(library)
 	$(CC) $(CFLAGS) -Iinclude -o $@ $< $(library)
+
+build/store_check build/convert_check: tests/frames.h
 
 build/feed: tests/feed.c | build
 	$(CC) $(CFLAGS) -o $@ $<
@@ -134,8 +142,8 @@ build/faults.so: tests/faults.c | build
 
 bench_common = bench/timing.c bench/random.c
 
-build/bench: bench/bench.c bench/records.c bench/c_store.c $(bench_common) $(wildcard bench/*.h) include/chiselbrow.h \
-             $(library) build/from_page.a
+build/bench: bench/bench.c bench/records.c bench/c_store.c bench/c_convert.c $(bench_common) $(wildcard bench/*.h) \
+             include/chiselbrow.h $(library) build/from_page.a
 	$(CC) $(CFLAGS) -Iinclude -o $@ $(filter %.c,$^) $(filter %.a,$^)
 
 build/bench_heads: bench/bench_heads.c bench/c_heads.c $(bench_common) $(wildcard bench/*.h) build/libbench_heads.a
@@ -155,5 +163,5 @@ build/from_page.a: bench/from_page.patch $(crates) | build
 build/c_program: bench/c_program.c bench/c_store.c $(wildcard bench/*.h) | build
 	$(CC) $(CFLAGS) -o $@ $(filter %.c,$^)
 
-build/c_compare build/c_pentads: build/%: bench/%.c $(wildcard bench/*.h) | build
+build/c_renew build/c_compare build/c_pentads: build/%: bench/%.c $(wildcard bench/*.h) | build
 	$(CC) $(CFLAGS) -o $@ $<

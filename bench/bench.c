@@ -1,6 +1,7 @@
-/* Measures chiselbrow_store against c_store, after checking that they agree;
- * and against itself with the heads that ordinals are counted from taken from
- * the printed page.
+/* Measures chiselbrow_store against c_store, and chiselbrow_convert against
+ * c_convert, after checking that they agree; and chiselbrow_store against
+ * itself with the heads that ordinals are counted from taken from the printed
+ * page.
  *
  *     bench [SEED] */
 
@@ -9,6 +10,7 @@
 #include <stdlib.h>
 #include <string.h>
 
+#include "c_convert.h"
 #include "c_store.h"
 #include "chiselbrow.h"
 #include "records.h"
@@ -30,7 +32,18 @@ static size_t make_mixed(struct random *random, uint32_t refused,
 {
     if (random_below(random, 100) < refused)
         return make_refused(random, record);
-    return make_accepted(random, 1 + random_below(random, KINDS), record);
+    return make_accepted(random, random_kind(random), record);
+}
+
+/* Of a hundred old records by name so many are not converted. */
+static size_t make_old_names(struct random *random, uint32_t refused,
+                             uint8_t *record)
+{
+    size_t length = make_old(random, 2, record);
+
+    if (random_below(random, 100) < refused)
+        record[9] = (uint8_t)(60 + random_below(random, 196));
+    return length;
 }
 
 static size_t make_guantian(struct random *random, uint32_t kind,
@@ -62,22 +75,24 @@ static const struct {
     {"kind 1 G", make_guantian, 1},
     {"kind 1 J", make_jiyuan, 1},
     {"kind 1 W", make_jingchu, 1},
-    {"kind 2 G", make_guantian, 2},
-    {"kind 2 J", make_jiyuan, 2},
-    {"kind 2 W", make_jingchu, 2},
     {"kind 3 G", make_guantian, 3},
     {"kind 3 J", make_jiyuan, 3},
     {"kind 3 W", make_jingchu, 3},
     {"kind 4 G", make_guantian, 4},
     {"kind 4 J", make_jiyuan, 4},
     {"kind 4 W", make_jingchu, 4},
+    {"kind 5 G", make_guantian, 5},
+    {"kind 5 J", make_jiyuan, 5},
+    {"kind 5 W", make_jingchu, 5},
     {"mixed", make_mixed, 5},
-    {"refused 10", make_refused_by, 10}
+    {"refused 10", make_refused_by, 10},
+    {"old", make_old_names, 5}
 };
 
 enum {
     PRINTED = 0,            /* the batch of records in printed years */
-    BATCHES = sizeof makers / sizeof makers[0]
+    BATCHES = sizeof makers / sizeof makers[0],
+    OLD = BATCHES - 1       /* the batch of records to convert */
 };
 
 /* Records one after another, with their lengths. */
@@ -114,10 +129,26 @@ static void print_bytes(const char *what, const uint8_t *bytes, size_t count)
     fprintf(stderr, "\n");
 }
 
-typedef uint64_t storing_step(const uint8_t *input, size_t input_len,
-                              uint8_t *output, size_t output_len);
+/* A function of the library, and the same by hand. */
+struct checked {
+    const char *name;
+    uint64_t (*library)(const uint8_t *input, size_t input_len,
+                        uint8_t *output, size_t output_len);
+    uint64_t (*c)(const uint8_t *input, size_t input_len,
+                  uint8_t *output, size_t output_len);
+};
 
-static void check_record(const char *name, storing_step *store,
+static const struct checked storing = {
+    "chiselbrow_store", chiselbrow_store, c_store
+};
+static const struct checked storing_from_page = {
+    "store_from_page", store_from_page, c_store
+};
+static const struct checked converting = {
+    "chiselbrow_convert", chiselbrow_convert, c_convert
+};
+
+static void check_record(const char *batch, const struct checked *checked,
                          const uint8_t *record, size_t length,
                          size_t output_len)
 {
@@ -125,31 +156,31 @@ static void check_record(const char *name, storing_step *store,
 
     memset(theirs, 0xA5, sizeof theirs);
     memset(ours, 0xA5, sizeof ours);
-    uint64_t answer = store(record, length, theirs, output_len);
-    uint64_t expected = c_store(record, length, ours, output_len);
+    uint64_t answer = checked->library(record, length, theirs, output_len);
+    uint64_t expected = checked->c(record, length, ours, output_len);
     if (answer == expected && memcmp(theirs, ours, sizeof ours) == 0)
         return;
 
-    fprintf(stderr, "bench: %s: %s and C differ\n", name,
-            store == chiselbrow_store ? "chiselbrow" : "the page");
+    fprintf(stderr, "bench: %s: %s and C differ\n", batch, checked->name);
     print_bytes("record", record, length);
     fprintf(stderr, "  output length: %zu\n", output_len);
     fprintf(stderr, "  answer: %016" PRIX64 "\n", answer);
     fprintf(stderr, "  C:      %016" PRIX64 "\n", expected);
-    print_bytes("stored", theirs, sizeof theirs);
+    print_bytes("output", theirs, sizeof theirs);
     print_bytes("C     ", ours, sizeof ours);
     exit(1);
 }
 
-static void check_batch(const struct batch *batch, storing_step *store)
+static void check_batch(const struct batch *batch,
+                        const struct checked *checked)
 {
     const uint8_t *record = batch->bytes;
 
     for (size_t i = 0; i < RECORDS; i++) {
         size_t length = batch->lengths[i];
-        check_record(batch->name, store, record, length, OUTPUT_ROOM);
-        check_record(batch->name, store, record, length, 10);
-        check_record(batch->name, store, record, length, 9);
+        check_record(batch->name, checked, record, length, OUTPUT_ROOM);
+        check_record(batch->name, checked, record, length, 10);
+        check_record(batch->name, checked, record, length, 9);
         record += length;
     }
 }
@@ -159,8 +190,8 @@ static void check_batch(const struct batch *batch, storing_step *store)
 /* Takes up every answer and an output byte, so that no call is left out. */
 static volatile uint64_t sink;
 
-/* One loop for each storing step, so that each is called by its symbol. */
-#define DEFINE_PASS(pass, store)                                        \
+/* One loop for each function, so that each is called by its symbol. */
+#define DEFINE_PASS(pass, function)                                     \
     static void pass(const void *records)                               \
     {                                                                   \
         const struct batch *batch = records;                            \
@@ -170,7 +201,7 @@ static volatile uint64_t sink;
                                                                         \
         for (size_t i = 0; i < RECORDS; i++) {                          \
             size_t length = batch->lengths[i];                          \
-            sum += store(record, length, output, sizeof output);        \
+            sum += function(record, length, output, sizeof output);     \
             sum += output[9];                                           \
             record += length;                                           \
         }                                                               \
@@ -180,6 +211,8 @@ static volatile uint64_t sink;
 DEFINE_PASS(pass_chiselbrow, chiselbrow_store)
 DEFINE_PASS(pass_c, c_store)
 DEFINE_PASS(pass_from_page, store_from_page)
+DEFINE_PASS(pass_convert, chiselbrow_convert)
+DEFINE_PASS(pass_c_convert, c_convert)
 
 static void measure(const struct batch *batch)
 {
@@ -200,17 +233,27 @@ static void measure_page(const struct batch *batch)
                  batch, RECORDS);
 }
 
+static void measure_conversion(const struct batch *batch)
+{
+    struct way chiselbrow = {"chiselbrow", pass_convert};
+    struct way c = {"C", pass_c_convert};
+
+    compare_ways("convert", chiselbrow, c, batch, RECORDS);
+}
+
 int main(int argc, char **argv)
 {
     struct random random = seeded(argc, argv);
 
     fill_batches(&random);
     for (size_t i = 0; i < BATCHES; i++) {
-        check_batch(&batches[i], chiselbrow_store);
-        check_batch(&batches[i], store_from_page);
+        check_batch(&batches[i], &storing);
+        check_batch(&batches[i], &storing_from_page);
+        check_batch(&batches[i], &converting);
     }
-    for (size_t i = 0; i < BATCHES; i++)
+    for (size_t i = 0; i < OLD; i++)
         measure(&batches[i]);
     measure_page(&batches[PRINTED]);
+    measure_conversion(&batches[OLD]);
     return 0;
 }

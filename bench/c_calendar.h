@@ -107,4 +107,10 @@ INLINE uint32_t number_of_qi(uint32_t qi_of_year)
     return qi_of_year < 2 ? qi_of_year + 11 : qi_of_year - 1;
 }
 
+/* The sixty-day name of a register day, 1 for jiazi to 60 for guihai. */
+INLINE uint32_t name_of_day(uint32_t day)
+{
+    return (day + 49) % 60 + 1;
+}
+
 #endif

@@ -78,7 +78,7 @@ INLINE void write_pentads(const struct calendar *c, char letter, uint32_t year)
         char *at = put_field(put_word(line_start(), "pentad"), p);
 
         *at++ = ' ';
-        at = put_field(put_register_day(at, day), (day + 49) % 60);
+        at = put_field(put_register_day(at, day), name_of_day(day));
         at = put_field(at, (uint32_t)(parts % c->solar));
         line_end(put_field(at, (uint32_t)(moment % c->denominator)));
     }

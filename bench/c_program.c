@@ -8,6 +8,7 @@
 #include <string.h>
 #include <unistd.h>
 
+#include "c_calendar.h"
 #include "c_numbers.h"
 #include "c_output.h"
 #include "c_store.h"
@@ -16,7 +17,7 @@ enum {
     INPUT_ROOM = 64 * 1024,
     SHORTEST_RECORD = 4,
     LONGEST_RECORD = 64,
-    LONGEST_LINE = 32,  /* "G 3000 10* 30 2817999 59\n" has 25 bytes */
+    LONGEST_LINE = 32,  /* "G 3000 10* 30 2817999 60\n" has 25 bytes */
     STORED_LEN = 10
 };
 
@@ -67,7 +68,7 @@ static void write_stored(const uint8_t *stored, uint32_t day)
     *at++ = ' ';
     at = put_register_day(at, day);
     *at++ = ' ';
-    at = put_below_100(at, (day + 49) % 60);
+    at = put_below_100(at, name_of_day(day));
     *at++ = '\n';
     line_end(at);
 }

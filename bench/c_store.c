@@ -1,5 +1,5 @@
-/* The storing step by closed forms: no table, and no loop or search but for the
- * leap month that refusal 10 tells.
+/* The storing step by closed forms: no table of months or days, and no loop or
+ * search but for the leap month that refusal 10 tells.
  *
  * Months k, days d (count days) and middle qi g are all counted from the
  * epoch. Middle qi 12 N + j is number j, 0 to 11, of the year with N years
@@ -71,7 +71,7 @@ INLINE uint32_t leap_month_of_year(const struct calendar *c, uint32_t year)
     return last < 12 ? number_of_qi(last) : 0;
 }
 
-/* A month as kinds 1 and 2 cite it. */
+/* A month as kinds 1 and 5 cite it. */
 struct cited {
     uint32_t refusal;   /* 0, 5, 6 or 10 */
     uint32_t told;      /* with 10, the year's leap month */
@@ -151,29 +151,6 @@ INLINE uint64_t store_kind_1(const struct calendar *c, const uint8_t *input,
     return month.head - c->anchor + before;
 }
 
-INLINE uint64_t store_kind_2(const struct calendar *c, const uint8_t *input,
-                             uint8_t *output, size_t output_len)
-{
-    uint32_t year = get_16(input + 5);
-    struct cited month = cited_month(c, year, input[7], input[8]);
-    uint32_t name = input[9];
-
-    if (month.refusal)
-        return refuse_telling(month.refusal, month.told);
-    if (name >= 60)
-        return refuse(7);
-
-    uint32_t head = (uint32_t)(month.head - c->anchor);
-    uint32_t head_name = (head + 49) % 60;
-    uint32_t before = name - head_name + (name < head_name ? 60 : 0);
-    if (before >= month.length)
-        return refuse(7);
-    if (output_len < STORED_LEN)
-        return refuse(8);
-    put_stored(output, input[4], year, input[7], input[8], before + 1);
-    return head + before;
-}
-
 INLINE uint64_t store_kind_3(const struct calendar *c, const uint8_t *input,
                              uint8_t *output, size_t output_len)
 {
@@ -216,6 +193,30 @@ INLINE uint64_t store_kind_4(const struct calendar *c, const uint8_t *input,
     return register_day;
 }
 
+INLINE uint64_t store_kind_5(const struct calendar *c, const uint8_t *input,
+                             uint8_t *output, size_t output_len)
+{
+    uint32_t year = get_16(input + 5);
+    struct cited month = cited_month(c, year, input[7], input[8]);
+    uint32_t after_jiazi = (uint32_t)input[9] - 1;
+
+    if (month.refusal)
+        return refuse_telling(month.refusal, month.told);
+    if (after_jiazi >= 60)
+        return refuse(7);
+
+    uint32_t head = (uint32_t)(month.head - c->anchor);
+    uint32_t head_after = (head + 49) % 60;
+    uint32_t before =
+        after_jiazi - head_after + (after_jiazi < head_after ? 60 : 0);
+    if (before >= month.length)
+        return refuse(7);
+    if (output_len < STORED_LEN)
+        return refuse(8);
+    put_stored(output, input[4], year, input[7], input[8], before + 1);
+    return head + before;
+}
+
 INLINE uint64_t store_by(const struct calendar *c, uint32_t kind,
                          const uint8_t *input,
                          uint8_t *output, size_t output_len)
@@ -223,12 +224,12 @@ INLINE uint64_t store_by(const struct calendar *c, uint32_t kind,
     switch (kind) {
     case 1:
         return store_kind_1(c, input, output, output_len);
-    case 2:
-        return store_kind_2(c, input, output, output_len);
     case 3:
         return store_kind_3(c, input, output, output_len);
-    default:
+    case 4:
         return store_kind_4(c, input, output, output_len);
+    default:
+        return store_kind_5(c, input, output, output_len);
     }
 }
 
@@ -239,12 +240,15 @@ uint64_t c_store(const uint8_t *input, size_t input_len,
         return refuse(1);
 
     uint32_t kind = get_16(input + 2);
-    if (kind - 1 >= 4)
+    if (kind > 5)
         return refuse(2);
 
-    uint32_t kind_len = kind <= 2 ? 10 : 9;
+    /* Kinds 0 and 2 have the length 0, which no input has that comes here, so
+     * that a record to be stored need not be tested for them. */
+    static const uint8_t lengths[] = {0, 10, 0, 9, 9, 10};
+    uint32_t kind_len = lengths[kind];
     if (get_16(input) != kind_len || input_len != kind_len)
-        return refuse(3);
+        return refuse(kind == 0 ? 2 : kind == 2 ? 11 : 3);
 
     switch (input[4]) {
     case 1:

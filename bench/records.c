@@ -18,6 +18,13 @@ static void put_32(uint8_t *to, uint32_t number)
     put_16(to + 2, number >> 16);
 }
 
+uint32_t random_kind(struct random *random)
+{
+    static const uint8_t kinds[] = {1, 3, 4, 5};
+
+    return kinds[random_below(random, sizeof kinds)];
+}
+
 /* Some systems and years, each from the first on. */
 struct span {
     uint32_t system, systems;
@@ -53,9 +60,9 @@ static size_t make_within(struct random *random, const struct span *span,
         return 9;
     }
     memcpy(record, stored, sizeof stored);
-    if (kind == 2) {
-        record[2] = 2;
-        record[9] = (uint8_t)((day + 49) % 60);
+    if (kind == 5) {
+        record[2] = 5;
+        record[9] = (uint8_t)name_of_day((uint32_t)day);
     }
     return sizeof stored;
 }
@@ -73,6 +80,17 @@ size_t make_accepted(struct random *random, uint32_t kind, uint8_t *record)
     static const struct span all = {1, SYSTEMS, 1, LAST_YEAR};
 
     return make_within(random, &all, kind, record);
+}
+
+size_t make_old(struct random *random, uint32_t kind, uint8_t *record)
+{
+    size_t length = make_accepted(random, kind == 2 ? 5 : kind, record);
+
+    if (kind == 2) {
+        record[2] = 2;
+        record[9]--;
+    }
+    return length;
 }
 
 size_t make_printed(struct random *random, uint32_t kind, uint8_t *record)
@@ -96,8 +114,11 @@ static size_t spoil(struct random *random, uint32_t refusal,
     case 1:
         return random_below(random, 4);
     case 2:
-        put_16(record + 2, way == 0 ? 0 : way == 1 ? 5 : 256 + kind);
+        put_16(record + 2, way == 0 ? 0 : way == 1 ? 6 : 256 + kind);
         return length;
+    case 11:
+        put_16(record + 2, 2);
+        return way == 0 ? 4 : length;
     case 3:
         if (way == 0) {
             put_16(record, random_below(random, 65));
@@ -110,7 +131,7 @@ static size_t spoil(struct random *random, uint32_t refusal,
                               random_below(random, 255 - SYSTEMS));
         return length;
     case 5:
-        if (kind < 4)
+        if (kind != 4)
             put_16(record + 5,
                    way == 0 ? 0 : 3001 + random_below(random, 62535));
         return length;
@@ -124,7 +145,7 @@ static size_t spoil(struct random *random, uint32_t refusal,
         record[8] = 1;
         return length;
     default:
-        if (kind <= 2)
+        if (kind == 1 || kind == 5)
             record[9] = (uint8_t)random_below(random, 256);
         else if (kind == 3)
             put_16(record + 7, way == 0 ? 0 : 354 + random_below(random, 64));
@@ -144,8 +165,7 @@ size_t make_refused_by(struct random *random, uint32_t refusal,
 
     /* Some ways to spoil a record leave it accepted, or refused otherwise. */
     do {
-        uint32_t kind = 1 + random_below(random, KINDS);
-        length = make_accepted(random, kind, record);
+        length = make_accepted(random, random_kind(random), record);
         length = spoil(random, refusal, record, length);
         answer = c_store(record, length, output, sizeof output);
     } while ((answer >> 32 & 0xFF) != refusal);
@@ -154,7 +174,7 @@ size_t make_refused_by(struct random *random, uint32_t refusal,
 
 size_t make_refused(struct random *random, uint8_t *record)
 {
-    static const uint8_t refusals[] = {1, 2, 3, 4, 5, 6, 10, 7};
+    static const uint8_t refusals[] = {1, 2, 11, 3, 4, 5, 6, 10, 7};
     uint32_t refusal = refusals[random_below(random, sizeof refusals)];
 
     return make_refused_by(random, refusal, record);

@@ -5,7 +5,7 @@
     store.py 1 1094 5 0 1
 
 The system is 1 for Guantian, 2 for Jiyuan or 3 for Jingchu. The loader has to
-find libchiselbrow.so.1: where it is not installed, LD_LIBRARY_PATH says where
+find libchiselbrow.so.2: where it is not installed, LD_LIBRARY_PATH says where
 it is. Printed is what store prints; so is the exit status. chiselbrow.h is the
 manual.
 """
@@ -20,7 +20,7 @@ REFUSED_LEAP = 10  # the one refusal that tells a month
 
 def load():
     """The storing step of the shared library."""
-    store = ctypes.CDLL("libchiselbrow.so.1").chiselbrow_store
+    store = ctypes.CDLL("libchiselbrow.so.2").chiselbrow_store
     store.restype = ctypes.c_uint64
     store.argtypes = [ctypes.c_char_p, ctypes.c_size_t, ctypes.c_char_p, ctypes.c_size_t]
     return store

@@ -14,10 +14,10 @@
  *
  *     int main(void)
  *     {
- *         // Guantian, year 1094, leap month 4, the day named 7
+ *         // Guantian, year 1094, leap month 4, the day named 8
  *         uint8_t cited[CHISELBROW_CITATION_ROOM];
  *         size_t size = chiselbrow_cite_name(cited, CHISELBROW_GUANTIAN,
- *                                            1094, 4, 1, 7);
+ *                                            1094, 4, 1, 8);
  *         uint8_t stored[CHISELBROW_STORED_SIZE];
  *         uint64_t answer = chiselbrow_store(cited, size,
  *                                            stored, sizeof stored);
@@ -39,7 +39,8 @@
  * Link with -lchiselbrow; nothing else is needed. The library is an archive
  * and a shared library. The linker takes the shared one, which the loader has
  * to find when the host is run; -Wl,-Bstatic -lchiselbrow -Wl,-Bdynamic takes
- * the archive. Both export chiselbrow_store, and all else is defined here.
+ * the archive. Both export chiselbrow_store and chiselbrow_convert, and all
+ * else is defined here.
  *
  *
  * WORDS
@@ -72,8 +73,8 @@
  *               1721407 to 2817138 in all three systems.
  *
  * name          The sixty-day name: a day's place in the round of sixty day
- *               names, 0 for jiazi to 59 for guihai. It is (register day +
- *               49) % 60 in every system, and comes back every sixty days.
+ *               names, 1 for jiazi to 60 for guihai. It is (register day +
+ *               49) % 60 + 1 in every system, and comes back every sixty days.
  *               It is a label, and never enough to tell one day from another.
  *
  * ordinal       A day's place in its year, from 1 to as many days as the year
@@ -83,7 +84,7 @@
  * RECORDS
  *
  * A citation is one record. Numbers of more than one byte have the low byte
- * first. All four kinds begin alike:
+ * first. There are four kinds, and they begin alike:
  *
  *     bytes 0, 1   length of the whole record
  *     bytes 2, 3   kind
@@ -91,7 +92,7 @@
  *
  *     kind            length   bytes 5, 6   byte 7   byte 8   byte 9
  *     1 stored form       10   year         month    leap     day of month
- *     2 by name           10   year         month    leap     name
+ *     5 by name           10   year         month    leap     name
  *
  *     kind            length   bytes 5, 6   bytes 7, 8
  *     3 by ordinal         9   year         ordinal
@@ -101,10 +102,11 @@
  *
  * Months are 1 to 12, days of the month count from 1, and a month has 29 or
  * 30 of them. Since that is less than sixty, a name fits at most one day of a
- * month. The same day four times over, each stored as the first:
+ * month. Kind 2 is retired; see OLD RECORDS. The same day four times over, each
+ * stored as the first:
  *
  *     0A 00 01 00 01 46 04 05 00 01    year 1094, month 5, day 1
- *     0A 00 02 00 01 46 04 05 00 25    year 1094, month 5, name 37
+ *     0A 00 05 00 01 46 04 05 00 26    year 1094, month 5, name 38
  *     09 00 03 00 01 46 04 D0 00       year 1094, ordinal 208
  *     09 00 04 00 01 68 5C 20 00       register day 2120808
  *
@@ -129,27 +131,58 @@
  * REFUSALS
  *
  * What cannot be stored is refused by a number. The conditions are tried in
- * the order below, in which 10 stands between 6 and 7, and the first that holds
- * is the one told; if none holds the citation is stored.
+ * the order below, in which 11 stands between 2 and 3, and 10 between 6 and 7.
+ * The first that holds is the one told; if none holds the citation is stored.
  *
  *     1   the input is shorter than 4 bytes
- *     2   the kind is none of 1 to 4
+ *     2   the kind is none of 1 to 5
+ *    11   the kind is 2, which is retired, whatever the length
  *     3   the length field is not what the kind has, or the input is longer
  *         or shorter than that
  *     4   the system is none of 1 to 3
- *     5   kinds 1 to 3: the year is outside 1 to 3000
- *     6   kinds 1 and 2: the month is outside 1 to 12, or the leap byte is
+ *     5   kinds 1, 3 and 5: the year is outside 1 to 3000
+ *     6   kinds 1 and 5: the month is outside 1 to 12, or the leap byte is
  *         neither 0 nor 1
- *    10   kinds 1 and 2: the leap byte is 1, and that month of that year is
+ *    10   kinds 1 and 5: the leap byte is 1, and that month of that year is
  *         not leap; the answer tells the year's leap month, or 0 if it has
  *         none (chiselbrow_leap_month)
- *     7   the month has no such day (kind 1) or no day so named (kind 2), the
+ *     7   the month has no such day (kind 1) or no day so named (kind 5), the
  *         year has no such ordinal (kind 3), or the register day is outside
- *         years 1 to 3000 of its system (kind 4)
+ *         years 1 to 3000 of its system (kind 4); names are 1 to 60, and no
+ *         day bears another
  *     8   the output is shorter than 10 bytes
  *
  * Refusal 9 is of requests that are not made from C. Later versions can have
  * other numbers: take any but CHISELBROW_ACCEPTED as a refusal.
+ *
+ *
+ * OLD RECORDS
+ *
+ * Before version 2.0 names were 0 for jiazi to 59 for guihai, and records of
+ * kind 2 cited by them. Now names count from 1, as in the concordances, and
+ * records of kind 5 cite by them. Kind 2 is retired: it is refused 11, so that
+ * no old name passes for a new one. A record of kind 5 has the length and the
+ * layout that kind 2 had:
+ *
+ *     0A 00 02 00 01 46 04 05 00 25    kind 2, name 37: refused 11
+ *     0A 00 05 00 01 46 04 05 00 26    kind 5, name 38: day 2120808
+ *
+ * chiselbrow_convert makes the second out of the first, one record at a call.
+ * For a file of records, of any kinds and one directly after another, there is
+ * the program chiselbrow-renew:
+ *
+ *     chiselbrow-renew < old > new
+ *
+ * It converts the records of kind 2 and leaves all others as they are, so that
+ * a file that is renewed twice is the same as one that is renewed once; its
+ * manual page is chiselbrow-renew(1).
+ *
+ * A converted record stores as version 1.2 stored the old one: the same day and
+ * the same ten bytes, or the same refusal. Records of kinds 1, 3 and 4 have not
+ * changed, stored records among them. Names that a host keeps elsewhere or
+ * works out by itself it has to raise by one. No compiler sees this: a host
+ * that still counts from 0, and is only built anew, cites the day before by
+ * chiselbrow_cite_name, or none.
  */
 
 #ifndef CHISELBROW_H
@@ -159,16 +192,19 @@
 #include <stdint.h>
 
 /* The version of this header and its library. The first number, which is also
- * that of the soname, rises when hosts have to be built anew, and the second
+ * that of the soname, rises when hosts have to be built anew. The second rises
  * when the rules of the calendars change or a calendar is added. Where rules
  * changed, a record that an earlier version stored can name another day or
  * none, and has to be stored anew, from the register day that was answered with
- * it. Version 1.2 added Jingchu and left the other calendars as they were, so
- * that what 1.1 stored stands; a host that was built with the header of 1.1
- * stores records of Jingchu, but does not read them with chiselbrow_read_date.
- * The third rises with what is told, as when a refusal gets a number of its
- * own, or the almanac a request. */
-#define CHISELBROW_VERSION "1.2.0"
+ * it. The third rises with what is told, as when a refusal gets a number of its
+ * own, or the almanac a request.
+ *
+ * Version 2.0 counts names from 1 and retires kind 2. A host that was built
+ * with a header of 1.x cites by name in kind 2, which is refused now, and so
+ * has to be built anew; OLD RECORDS, above, tells what else it has to see to.
+ * The calendars are those of 1.2, and what 1.2 stored stands as it is. So does
+ * what 1.1 stored, since 1.2 only added Jingchu. */
+#define CHISELBROW_VERSION "2.0.0"
 
 #ifdef __cplusplus
 extern "C" {
@@ -181,16 +217,20 @@ enum {
     CHISELBROW_JINGCHU = 3
 };
 
-/* Bytes 2 and 3 of a record. */
+/* Bytes 2 and 3 of a record. Of the retired kind, with names 0 to 59, there are
+ * old records; only chiselbrow_convert takes it. */
 enum {
     CHISELBROW_KIND_STORED = 1,
-    CHISELBROW_KIND_NAME = 2,
+    CHISELBROW_KIND_RETIRED = 2,
     CHISELBROW_KIND_ORDINAL = 3,
-    CHISELBROW_KIND_DAY = 4
+    CHISELBROW_KIND_DAY = 4,
+    CHISELBROW_KIND_NAME = 5
 };
 
 /* Bytes in a record of each kind, and the room that a citation of any kind
- * needs. CHISELBROW_STORED_SIZE is also the room that an output needs. */
+ * needs. CHISELBROW_STORED_SIZE is also the room that the output of
+ * chiselbrow_store needs, and CHISELBROW_NAME_SIZE that of chiselbrow_convert.
+ */
 enum {
     CHISELBROW_STORED_SIZE = 10,
     CHISELBROW_NAME_SIZE = 10,
@@ -199,7 +239,8 @@ enum {
     CHISELBROW_CITATION_ROOM = 10
 };
 
-/* What chiselbrow_refusal gives: the table above. */
+/* What chiselbrow_refusal gives: the table above, and that of
+ * chiselbrow_convert. */
 enum {
     CHISELBROW_ACCEPTED = 0,
     CHISELBROW_REFUSED_SHORT = 1,
@@ -210,7 +251,8 @@ enum {
     CHISELBROW_REFUSED_MONTH = 6,
     CHISELBROW_REFUSED_DAY = 7,
     CHISELBROW_REFUSED_OUTPUT = 8,
-    CHISELBROW_REFUSED_LEAP = 10
+    CHISELBROW_REFUSED_LEAP = 10,
+    CHISELBROW_REFUSED_RETIRED = 11
 };
 
 /* Stores one citation.
@@ -241,13 +283,15 @@ enum {
 uint64_t chiselbrow_store(const uint8_t *input, size_t input_len,
                           uint8_t *output, size_t output_len);
 
-/* The register day in an answer; 0 when refused. */
+/* The register day in an answer; 0 when refused. Answers of chiselbrow_convert
+ * have none, and give 0. */
 static inline uint32_t chiselbrow_day(uint64_t answer)
 {
     return (uint32_t)(answer & 0xFFFFFFFFu);
 }
 
-/* The refusal number in an answer; CHISELBROW_ACCEPTED when stored. */
+/* The refusal number in an answer; CHISELBROW_ACCEPTED when stored or
+ * converted. */
 static inline unsigned chiselbrow_refusal(uint64_t answer)
 {
     return (unsigned)(answer >> 32 & 0xFFu);
@@ -310,7 +354,7 @@ chiselbrow_cite_date(uint8_t cited[CHISELBROW_STORED_SIZE], int64_t system,
     return CHISELBROW_STORED_SIZE;
 }
 
-/* By sixty-day name within a month: kind 2. */
+/* By sixty-day name within a month: kind 5. Names are 1 to 60. */
 static inline size_t
 chiselbrow_cite_name(uint8_t cited[CHISELBROW_NAME_SIZE], int64_t system,
                      int64_t year, int64_t month, int64_t leap, int64_t name)
@@ -386,6 +430,55 @@ chiselbrow_read_date(const uint8_t *record, size_t record_len,
     *date = read;
     return 1;
 }
+
+/* Converts an old record: of the retired kind 2, with names 0 to 59, to kind 5.
+ *
+ * input, input_len     the old record, and nothing after it; never changed
+ * output, output_len   where the record of kind 5 goes
+ *
+ * Converted: the first ten output bytes become those of the input, but for the
+ * kind, byte 2, which is 5, and the name, byte 9, which is one higher; any
+ * bytes after them stay as they were. What the output held before makes no
+ * difference. The ten bytes are a citation that chiselbrow_store takes.
+ *
+ * Refused: no byte of the output changes. The first that holds is the one told,
+ * in this order:
+ *
+ *     1   the input is shorter than 4 bytes
+ *     2   the kind is not 2
+ *     3   the length field is not 10, or the input is longer or shorter than
+ *         that
+ *     7   the name is above 59
+ *     8   the output is shorter than 10 bytes
+ *
+ * The answer is 2^32 times the refusal number, and 0 when converted;
+ * chiselbrow_refusal takes the number out.
+ *
+ * No more is judged. System, year, month and leap mark are taken over as they
+ * are, whether they name a day or not: that is for the storing step to say, of
+ * the converted record as it did of the old one. What is refused 1, 3 or 7 here
+ * named no day in version 1.2 either. A record of any other kind is refused 2,
+ * one that was converted before among them, so that no name rises twice.
+ *
+ * To put the new record in the place of the old one:
+ *
+ *     uint8_t renewed[CHISELBROW_NAME_SIZE];
+ *     uint64_t answer = chiselbrow_convert(record, record_len,
+ *                                          renewed, sizeof renewed);
+ *
+ *     if (chiselbrow_refusal(answer) == CHISELBROW_ACCEPTED)
+ *         memcpy(record, renewed, sizeof renewed);
+ *
+ * Any bytes may be handed in, and any lengths. Only the bytes lent are read
+ * or written. A pointer whose length is 0 may be null and stands for an empty
+ * buffer: such an input is refused 1, and such an output is refused 8 where
+ * nothing is wrong with the record. The two buffers must not overlap.
+ *
+ * The call keeps no state, allocates nothing, makes no system call and ends
+ * after a fixed handful of steps. It may be made from any number of threads
+ * at once and from a signal handler. */
+uint64_t chiselbrow_convert(const uint8_t *input, size_t input_len,
+                            uint8_t *output, size_t output_len);
 
 #ifdef __cplusplus
 }

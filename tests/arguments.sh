@@ -71,15 +71,19 @@ unlike() {
     wrong '' ''
 }
 
-LD_PRELOAD=$PWD/build/faults.so run build/chiselbrow < /dev/null
-grep -qx 'read 0' "$scratch/calls" || fail "a program's reads are not seen"
-
-about chiselbrow 'usage: chiselbrow [--help | --version] < records'
-unwritable
-unlike
-wrong x
-wrong x y
-wrong examples/case-9.bin
+# A program that reads records and takes no other arguments.
+reads_records() {
+    LD_PRELOAD=$PWD/build/faults.so run "build/$1" < /dev/null
+    grep -qx 'read 0' "$scratch/calls" || fail "the reads of $1 are not seen"
+    about "$1" "$2"
+    unwritable
+    unlike
+    wrong x
+    wrong x y
+    wrong examples/case-9.bin
+}
+reads_records chiselbrow 'usage: chiselbrow [--help | --version] < records'
+reads_records chiselbrow-renew 'usage: chiselbrow-renew [--help | --version] < records > renewed'
 
 forms='almanac year SYSTEM YEAR [LAST]
 almanac pentads SYSTEM YEAR [LAST]

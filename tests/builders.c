@@ -9,7 +9,6 @@
 #include <string.h>
 
 enum {
-    KINDS = 4,
     FIELDS = 5,               /* the most that a kind has */
     FIRST_DAY = 1721407,      /* of years 1 to 3000, in every system */
     LAST_DAY = 2817138,
@@ -30,7 +29,7 @@ static void require(int holds, const char *what)
     exit(1);
 }
 
-/* A citation of the kind, 1 to 4, with its fields in the order of the bytes. */
+/* A citation of the kind, with its fields in the order of the bytes. */
 static struct citation cite(int kind, const int64_t *field)
 {
     struct citation cited;
@@ -61,71 +60,74 @@ struct field {
     unsigned refusal;
 };
 
-static const struct {
+static const struct in_kind {
+    int kind;
     size_t size;
     uint8_t bytes[CHISELBROW_CITATION_ROOM];
     int fields;
     struct field field[FIELDS];
-} case_9[KINDS] = {
-    {10, {0x0A, 0x00, 0x01, 0x00, 0x01, 0x46, 0x04, 0x05, 0x00, 0x01},
+} case_9[] = {
+    {1, 10, {0x0A, 0x00, 0x01, 0x00, 0x01, 0x46, 0x04, 0x05, 0x00, 0x01},
      5, {{1, 8, 4}, {1094, 16, 5}, {5, 8, 6}, {0, 8, 6}, {1, 8, 7}}},
-    {10, {0x0A, 0x00, 0x02, 0x00, 0x01, 0x46, 0x04, 0x05, 0x00, 0x25},
-     5, {{1, 8, 4}, {1094, 16, 5}, {5, 8, 6}, {0, 8, 6}, {37, 8, 7}}},
-    {9, {0x09, 0x00, 0x03, 0x00, 0x01, 0x46, 0x04, 0xD0, 0x00},
+    {5, 10, {0x0A, 0x00, 0x05, 0x00, 0x01, 0x46, 0x04, 0x05, 0x00, 0x26},
+     5, {{1, 8, 4}, {1094, 16, 5}, {5, 8, 6}, {0, 8, 6}, {38, 8, 7}}},
+    {3, 9, {0x09, 0x00, 0x03, 0x00, 0x01, 0x46, 0x04, 0xD0, 0x00},
      3, {{1, 8, 4}, {1094, 16, 5}, {208, 16, 7}}},
-    {9, {0x09, 0x00, 0x04, 0x00, 0x01, 0x68, 0x5C, 0x20, 0x00},
+    {4, 9, {0x09, 0x00, 0x04, 0x00, 0x01, 0x68, 0x5C, 0x20, 0x00},
      2, {{1, 8, 4}, {2120808, 32, 7}}},
 };
 
-/* The numbers of case 9 in the kind, but for one. */
-static struct citation cite_case_9(int kind, int changed, int64_t number)
+enum { KINDS = sizeof case_9 / sizeof *case_9 };
+
+/* The numbers of case 9 in a kind, but for one. */
+static struct citation cite_case_9(const struct in_kind *in, int changed, int64_t number)
 {
     int64_t field[FIELDS] = {0};
 
     for (int i = 0; i < FIELDS; i++)
-        field[i] = i == changed ? number : case_9[kind - 1].field[i].number;
-    return cite(kind, field);
+        field[i] = i == changed ? number : in->field[i].number;
+    return cite(in->kind, field);
 }
 
 static void check_bytes(void)
 {
-    for (int kind = 1; kind <= KINDS; kind++) {
-        struct citation cited = cite_case_9(kind, FIELDS, 0);
-        size_t size = case_9[kind - 1].size;
+    for (int i = 0; i < KINDS; i++) {
+        struct citation cited = cite_case_9(&case_9[i], FIELDS, 0);
+        size_t size = case_9[i].size;
 
         require(cited.size == size, "case 9: another size");
-        require(memcmp(cited.bytes, case_9[kind - 1].bytes, size) == 0, "case 9: other bytes");
-        for (size_t i = size; i < ROOM; i++)
-            require(cited.bytes[i] == UNTOUCHED, "a byte past the citation was changed");
+        require(memcmp(cited.bytes, case_9[i].bytes, size) == 0, "case 9: other bytes");
+        for (size_t at = size; at < ROOM; at++)
+            require(cited.bytes[at] == UNTOUCHED, "a byte past the citation was changed");
     }
 }
 
-static void require_refused(int kind, int changed, int64_t number)
+static void require_refused(const struct in_kind *in, int changed, int64_t number)
 {
-    unsigned expected = case_9[kind - 1].field[changed].refusal;
-    unsigned came = refusal_of(cite_case_9(kind, changed, number));
+    unsigned expected = in->field[changed].refusal;
+    unsigned came = refusal_of(cite_case_9(in, changed, number));
 
     if (came == expected)
         return;
     fprintf(stderr, "builders: kind %d, field %d, number %" PRId64 ": refusal %u, and not %u\n",
-            kind, changed, number, came, expected);
+            in->kind, changed, number, came, expected);
     exit(1);
 }
 
 /* Numbers whose low bits are those of case 9, and the ends of the type. */
-static unsigned check_field(int kind, int changed)
+static unsigned check_field(const struct in_kind *in, int changed)
 {
-    struct field field = case_9[kind - 1].field[changed];
+    struct field field = in->field[changed];
     unsigned done = 0;
 
     for (int bit = field.bits; bit < 63; bit++) {
-        require_refused(kind, changed, field.number + (INT64_C(1) << bit));
-        require_refused(kind, changed, field.number - (INT64_C(1) << bit));
+        require_refused(in, changed, field.number + (INT64_C(1) << bit));
+        require_refused(in, changed, field.number - (INT64_C(1) << bit));
         done += 2;
     }
-    require_refused(kind, changed, INT64_MIN + field.number);
-    require_refused(kind, changed, INT64_MAX);
-    require_refused(kind, changed, -1);
+    require_refused(in, changed, INT64_MIN + field.number);
+    require_refused(in, changed, INT64_MAX);
+    require_refused(in, changed, -1);
     return done + 3;
 }
 
@@ -136,13 +138,17 @@ static unsigned check_out_of_range(void)
     static const uint8_t large[] = {0x0A, 0, 1, 0, 0xFE, 0xFE, 0xFF, 0xFE, 0xFE, 0xFE};
     static const int64_t large_fields[FIELDS] = {254, 65534, 254, 254, 254};
     static const int64_t two_fields[FIELDS] = {1, 70000, 300, 1, 1};
+    static const int64_t names[][FIELDS] = {{1, 1094, 5, 0, 0}, {1, 1094, 5, 0, 61}};
     unsigned done = 0;
 
-    for (int kind = 1; kind <= KINDS; kind++)
-        for (int i = 0; i < case_9[kind - 1].fields; i++)
-            done += check_field(kind, i);
+    for (int i = 0; i < KINDS; i++)
+        for (int field = 0; field < case_9[i].fields; field++)
+            done += check_field(&case_9[i], field);
     require(refusal_of(cite(CHISELBROW_KIND_STORED, two_fields)) == CHISELBROW_REFUSED_YEAR,
             "year 70000, month 300: not refused by its year");
+    for (size_t i = 0; i < sizeof names / sizeof *names; i++)
+        require(refusal_of(cite(CHISELBROW_KIND_NAME, names[i])) == CHISELBROW_REFUSED_DAY,
+                "name 0 or 61: not refused by its name");
     require(memcmp(cite(CHISELBROW_KIND_STORED, large_fields).bytes, large, sizeof large) == 0,
             "numbers that fit: other bytes");
     return done;
@@ -176,7 +182,7 @@ static unsigned check_every_day(int64_t system)
         year = date.year;
 
         int64_t by_date[] = {system, year, date.month, date.leap, date.day};
-        int64_t by_name[] = {system, year, date.month, date.leap, (day + 49) % 60};
+        int64_t by_name[] = {system, year, date.month, date.leap, (day + 49) % 60 + 1};
         int64_t by_ordinal[] = {system, year, ordinal};
         require_stored(by_day, stored, day);
         require_stored(cite(CHISELBROW_KIND_STORED, by_date), stored, day);
@@ -211,12 +217,12 @@ static void check_reader(void)
         int expected;
     } changes[] = {
         {"length field 9", 0, 9, 0},   {"length field 266", 1, 1, 0}, {"kind 0", 2, 0, 0},
-        {"kind 2", 2, 2, 0},           {"kind 257", 3, 1, 0},         {"system 0", 4, 0, 0},
-        {"system 2", 4, 2, 1},         {"system 3", 4, 3, 1},         {"system 4", 4, 4, 0},
-        {"year 3000", 5, 0xB8, 1},     {"year 3001", 5, 0xB9, 0},     {"year 2817", 5, 0x01, 1},
-        {"year 65464", 6, 0xFF, 0},    {"month 0", 7, 0, 0},          {"month 12", 7, 12, 1},
-        {"month 13", 7, 13, 0},        {"leap mark 2", 8, 2, 0},      {"day 0", 9, 0, 0},
-        {"day 30", 9, 30, 1},          {"day 31", 9, 31, 0},
+        {"kind 2", 2, 2, 0},           {"kind 5", 2, 5, 0},           {"kind 257", 3, 1, 0},
+        {"system 0", 4, 0, 0},         {"system 2", 4, 2, 1},         {"system 3", 4, 3, 1},
+        {"system 4", 4, 4, 0},         {"year 3000", 5, 0xB8, 1},     {"year 3001", 5, 0xB9, 0},
+        {"year 2817", 5, 0x01, 1},     {"year 65464", 6, 0xFF, 0},    {"month 0", 7, 0, 0},
+        {"month 12", 7, 12, 1},        {"month 13", 7, 13, 0},        {"leap mark 2", 8, 2, 0},
+        {"day 0", 9, 0, 0},            {"day 30", 9, 30, 1},          {"day 31", 9, 31, 0},
     };
     static const uint8_t year_0[] = {0x0A, 0, 1, 0, 1, 0, 0, 5, 0, 1};
     static const uint8_t eleven[] = {0x0A, 0, 1, 0, 1, 0x46, 0x04, 5, 0, 1, 0};

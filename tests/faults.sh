@@ -35,9 +35,18 @@ plain() {
     plain_reads=("${reads[@]}") plain_writes=("${writes[@]}")
 }
 
-# After a failed read: the lines of the records that were whole before it.
+# A failure is told after what was due before it. That is nothing, but chiselbrow-renew tells of records as it goes on.
+failed() {
+    local before=
+    [ "$program" != chiselbrow-renew ] || before=$(sed '$d' "$scratch/error")
+    [[ $due_line = "$before"* ]] || fail "$1: something else is told before the failure: $before"
+    told "$1" 1 "$scratch/expected" "${before:+$before$'\n'}$program: $2"
+}
+
+# After a failed read: what is due for the records that were whole before it. Chiselbrow has a line for each of them,
+# and chiselbrow-renew their bytes; it may have copied others that were read, if they are no record or not all of one.
 read_failed() {
-    local bytes=0 records=0 moved end
+    local bytes=0 records=0 moved end size
     for moved in "${reads[@]}"; do
         [ "$moved" != "-$EIO" ] || break
         bytes=$((bytes + moved))
@@ -46,8 +55,15 @@ read_failed() {
         [ "$end" -le "$bytes" ] || break
         records=$((records + 1))
     done
-    head -n "$records" "$scratch/right" > "$scratch/expected"
-    told "$1" 1 "$scratch/expected" "$program: standard input: Input/output error"
+    case $program in
+        chiselbrow) head -n "$records" "$scratch/right" > "$scratch/expected" ;;
+        chiselbrow-renew)
+            size=$(stat -c %s "$scratch/out")
+            [[ ${ends[records]} -le $size && $size -le $bytes ]] || fail "$1: $size bytes of $bytes"
+            head -c "$size" "$scratch/right" > "$scratch/expected"
+            ;;
+    esac
+    failed "$1" 'standard input: Input/output error'
 }
 
 # After a failed write: what the writes before it took, the cut one among them.
@@ -59,7 +75,7 @@ write_failed() {
         half) bytes=$((bytes + (plain_writes[i] + 1) / 2)) ;;
     esac
     head -c "$bytes" "$scratch/right" > "$scratch/expected"
-    told "$1" 1 "$scratch/expected" "$program: standard output: No space left on device"
+    failed "$1" 'standard output: No space left on device'
 }
 
 # The fault that the environment tells, at the first call, at the second and so on, until a run makes no such call. The
@@ -94,46 +110,60 @@ every_fault() {
     done
 }
 
-# Chiselbrow's input and what is due for it: the records, and bytes after them that are no record, or none.
+# The input and what is due for it: the records, and bytes after them that are no record, or none.
 after_records() {
-    local rest=$1
-    { cat "$scratch/records" && printf '%b' "$rest"; } > "$input"
-    { cat "$scratch/lines" && echo -n "${rest:+refused 1$'\n'}"; } > "$scratch/right"
+    { cat "$scratch/records" && printf '%b' "$1"; } > "$input"
     mapfile -t ends < <(record_ends "$input")
-    due "$input"
+    case $program in
+        chiselbrow)
+            build/independent lines < "$input" > "$scratch/right"
+            due "$input"
+            ;;
+        chiselbrow-renew)
+            due_status=0
+            due_line=$(build/independent renew < "$input" 2>&1 > "$scratch/right") || due_status=1
+            ;;
+    esac
 }
 
-program=chiselbrow command=(build/chiselbrow) input=$scratch/input
-build/independent stream 8 8 2> /dev/null > "$scratch/stream"
-head -c "$(record_ends "$scratch/stream" | tail -n 1)" "$scratch/stream" > "$scratch/records"
-build/independent lines < "$scratch/records" > "$scratch/lines"
+# The whole records of a stream.
+records_of() {
+    "$@" 2> /dev/null > "$scratch/stream"
+    head -c "$(record_ends "$scratch/stream" | tail -n 1)" "$scratch/stream" > "$scratch/records"
+}
 
-# Few records: none left over, one byte, and bytes that cannot begin a record.
-for rest in '' '\x09' '\x03\0\x04\0\x01\x68\x5C\x20\0'; do
-    after_records "$rest"
-    READ_MOST=1 WRITE_MOST=1 INTERRUPTS=3 plain 100 100
-    export READ_MOST=10
-    plain 10 8
+# A program that reads records, on those of a stream.
+with_records() {
+    program=$1 command=("build/$1") input=$scratch/input
+    shift
+    records_of "$@"
+
+    # Few records: none left over, one byte, and bytes that cannot begin a record.
+    for rest in '' '\x09' '\x03\0\x04\0\x01\x68\x5C\x20\0'; do
+        after_records "$rest"
+        READ_MOST=1 WRITE_MOST=1 INTERRUPTS=3 plain $((${ends[-1]} + 1)) "$(stat -c %s "$scratch/right")"
+        export READ_MOST=10
+        plain 10 5
+        every_fault read "$EIO"
+        every_fault write "$ENOSPC"
+        unset READ_MOST
+    done
+
+    # Many records, and calls that move as many bytes as the program asks for.
+    for _ in {1..1000}; do echo "$scratch/records"; done | xargs cat > "$scratch/many"
+    mv "$scratch/many" "$scratch/records"
+    after_records '\x09'
+    plain 3 2
     every_fault read "$EIO"
     every_fault write "$ENOSPC"
-    unset READ_MOST
-done
 
-# Many records, and calls that move as many bytes as the program asks for.
-for bytes in records lines; do
-    for _ in {1..1000}; do echo "$scratch/$bytes"; done | xargs cat > "$scratch/many"
-    mv "$scratch/many" "$scratch/$bytes"
-done
-after_records '\x09'
-plain 3 2
-every_fault read "$EIO"
-every_fault write "$ENOSPC"
-
-# A call that is interrupted a thousand times on end.
-head -c 38 examples/case-9.bin > "$input"
-build/independent lines < "$input" > "$scratch/right"
-due_status=0 due_line=
-INTERRUPTS=1000 plain 2 1
+    # A call that is interrupted a thousand times on end.
+    head -c 38 examples/case-9.bin > "$scratch/records"
+    after_records ''
+    INTERRUPTS=1000 plain 2 1
+}
+with_records chiselbrow build/independent stream 8 10
+with_records chiselbrow-renew build/independent old-stream 8 10
 
 program=almanac input=/dev/null due_status=0 due_line=
 

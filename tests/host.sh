@@ -17,26 +17,31 @@ expect() {
 stored='0 day 2120808
 record 0A 00 01 00 01 46 04 05 00 01'
 expect "$stored" 0A 00 01 00 01 46 04 05 00 01
-expect "$stored" '0A 00 02 00 01 46 04 05 00 25'
+expect "$stored" '0A 00 05 00 01 46 04 05 00 26'
 expect "$stored" 0900030001 4604d000
 expect "$stored" 090004000168 ' 5c20 00 '
 stored='0 day 1808315
 record 0A 00 01 00 03 EE 00 0A 01 01'
 expect "$stored" 0A 00 01 00 03 EE 00 0A 01 01
-expect "$stored" 0A 00 02 00 03 EE 00 0A 01 18
+expect "$stored" 0A 00 05 00 03 EE 00 0A 01 19
 expect "$stored" 09 00 03 00 03 EE 00 63 01
 expect "$stored" 09 00 04 00 03 BB 97 1B 00
 
 expect '1 refused 1' ''
+expect '1 refused 2' 0A 00 06 00 01 46 04 05 00 26
+expect '1 refused 11' 0A 00 02 00 01 46 04 05 00 25
+expect '1 refused 11' 04 00 02 00
 expect '1 refused 3' 0A 00 04 00 01 68 5C 20 00
 expect '1 refused 4' 09 00 04 00 04 68 5C 20 00
 expect '1 refused 6' 0A 00 01 00 01 46 04 0D 01 01
-expect '1 refused 6' 0A 00 02 00 01 46 04 05 02 25
+expect '1 refused 6' 0A 00 05 00 01 46 04 05 02 26
 expect '1 refused 10 4' 0A 00 01 00 01 46 04 05 01 01
-expect '1 refused 10 4' 0A 00 02 00 01 46 04 05 01 25
+expect '1 refused 10 4' 0A 00 05 00 01 46 04 05 01 26
 expect '1 refused 10 0' 0A 00 01 00 01 44 04 05 01 01
-expect '1 refused 10 0' 0A 00 02 00 01 44 04 05 01 25
+expect '1 refused 10 0' 0A 00 05 00 01 44 04 05 01 26
 expect '1 refused 10 10' 0A 00 01 00 03 EE 00 0B 01 01
+expect '1 refused 7' 0A 00 05 00 01 46 04 05 00 00
+expect '1 refused 7' 0A 00 05 00 01 46 04 05 00 3D
 expect '1 refused 7' 09 00 03 00 01 46 04 81 01
 expect '1 refused 7' 09 00 04 00 03 CE 09 05 00
 

@@ -10,7 +10,7 @@
 enum {
     FIRST = 2120808,
     SECOND = FIRST + 60,
-    NAME = 37
+    NAME = 38
 };
 
 static void require(int holds, const char *what, unsigned system, uint32_t day)
@@ -54,7 +54,7 @@ static void check_lot(const struct lot *lot)
     uint8_t cited[CHISELBROW_CITATION_ROOM];
     size_t length;
 
-    require((lot->day + 49) % 60 == NAME, "another name", lot->system, lot->day);
+    require((lot->day + 49) % 60 + 1 == NAME, "another name", lot->system, lot->day);
     length = chiselbrow_cite_day(cited, lot->system, lot->day);
     check(lot, cited, length, "by day, another record");
     length = chiselbrow_cite_name(cited, lot->system, 1094, lot->month, lot->leap, NAME);

@@ -38,14 +38,16 @@ says "$scratch/static"
 
 says "$scratch/bin/store"
 came=$(head -c 10 examples/case-9.bin | "$scratch/bin/chiselbrow")
-[ "$came" = 'G 1094 5 1 2120808 37' ] || fail "the installed program says: $came"
+[ "$came" = 'G 1094 5 1 2120808 38' ] || fail "the installed program says: $came"
 [ -x "$scratch/bin/almanac" ] || fail "no almanac"
+printf '\x0A\0\x02\0\x01\x46\x04\x05\0\x25' | "$scratch/bin/chiselbrow-renew" > "$scratch/renewed"
+cmp "$scratch/renewed" <(printf '\x0A\0\x05\0\x01\x46\x04\x05\0\x26') || fail "the installed program renews otherwise"
 
 man=$scratch/share/man
-for page in man1/chiselbrow.1 man1/almanac.1 man3/chiselbrow.3; do
+for page in man1/chiselbrow.1 man1/almanac.1 man1/chiselbrow-renew.1 man3/chiselbrow.3; do
     cmp -s "man/${page#*/}" "$man/$page" || fail "no $page, or another one"
 done
-for function in store day refusal leap_month cite_date cite_name cite_ordinal cite_day read_date; do
+for function in store convert day refusal leap_month cite_date cite_name cite_ordinal cite_day read_date; do
     [ "$(cat "$man/man3/chiselbrow_$function.3")" = '.so man3/chiselbrow.3' ] || fail "no page for chiselbrow_$function"
 done
 

@@ -25,7 +25,8 @@ try() {
 }
 
 count=0
-for page in man/chiselbrow.1 man/almanac.1; do
+for page in man/chiselbrow.1 man/almanac.1 man/chiselbrow-renew.1; do
+    before=$count
     while read -r _; do
         read -r command
         shown=
@@ -33,6 +34,7 @@ for page in man/chiselbrow.1 man/almanac.1; do
         try "$command" "$shown"
         count=$((count + 1))
     done < <(examples "$page")
+    [ "$count" -gt "$before" ] || fail "$page has no examples"
 done
-[ "$count" -ge 5 ] || fail "only $count examples"
+[ "$count" -ge 6 ] || fail "only $count examples"
 echo "manual: $count examples print what is shown"

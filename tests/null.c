@@ -1,4 +1,4 @@
-/* Null pointers with length 0, and the accessors of the header. */
+/* Null pointers with length 0, in both calls, and the accessors of the header. */
 
 #include <chiselbrow.h>
 #include <stdio.h>
@@ -23,6 +23,47 @@ static void expect(const char *what, uint64_t answer, unsigned refusal, uint32_t
     expect_telling(what, answer, refusal, 0, day);
 }
 
+/* No byte of an output may have been changed. */
+static void expect_same(const char *what, const uint8_t *output, const uint8_t *before, size_t count)
+{
+    if (memcmp(output, before, count) == 0)
+        return;
+    fprintf(stderr, "null: %s, and yet the output was changed\n", what);
+    failures++;
+}
+
+static void check_convert(void)
+{
+    static const uint8_t old[] = {0x0A, 0, 2, 0, 1, 0x46, 0x04, 5, 0, 37};
+    static const uint8_t no_name[] = {0x0A, 0, 2, 0, 1, 0x46, 0x04, 5, 0, 60};
+    static const uint8_t short_one[] = {0x09, 0, CHISELBROW_KIND_RETIRED, 0, 1, 0x46, 0x04, 5, 0};
+    uint8_t turned[CHISELBROW_NAME_SIZE];
+    uint8_t output[12], before[12];
+
+    chiselbrow_cite_name(turned, CHISELBROW_GUANTIAN, 1094, 5, 0, 38);
+    memset(output, 0xA5, sizeof output);
+    memcpy(before, output, sizeof output);
+    expect("convert, no input", chiselbrow_convert(NULL, 0, output, sizeof output),
+           CHISELBROW_REFUSED_SHORT, 0);
+    expect_same("convert, no input", output, before, sizeof output);
+    expect("convert, neither", chiselbrow_convert(NULL, 0, NULL, 0), CHISELBROW_REFUSED_SHORT, 0);
+    expect("convert, no output", chiselbrow_convert(old, sizeof old, NULL, 0),
+           CHISELBROW_REFUSED_OUTPUT, 0);
+    expect("convert, no output, no name", chiselbrow_convert(no_name, sizeof no_name, NULL, 0),
+           CHISELBROW_REFUSED_DAY, 0);
+    expect("convert, no output, nine bytes", chiselbrow_convert(short_one, sizeof short_one, NULL, 0),
+           CHISELBROW_REFUSED_LENGTH, 0);
+    expect("convert, no output, kind 5", chiselbrow_convert(turned, sizeof turned, NULL, 0),
+           CHISELBROW_REFUSED_KIND, 0);
+    expect("convert, both there", chiselbrow_convert(old, sizeof old, output, sizeof output),
+           CHISELBROW_ACCEPTED, 0);
+    if (memcmp(output, turned, sizeof turned) != 0 || memcmp(output + 10, before + 10, 2) != 0) {
+        fprintf(stderr, "null: converted to other bytes\n");
+        failures++;
+    }
+    expect("an old record", chiselbrow_store(old, sizeof old, NULL, 0), CHISELBROW_REFUSED_RETIRED, 0);
+}
+
 int main(void)
 {
     uint8_t cited[CHISELBROW_DAY_SIZE], no_system[CHISELBROW_DAY_SIZE];
@@ -36,10 +77,7 @@ int main(void)
     memcpy(before, output, sizeof output);
     expect("no input", chiselbrow_store(NULL, 0, output, sizeof output),
            CHISELBROW_REFUSED_SHORT, 0);
-    if (memcmp(output, before, sizeof output) != 0) {
-        fprintf(stderr, "null: no input, and yet the output was changed\n");
-        failures++;
-    }
+    expect_same("no input", output, before, sizeof output);
     expect("neither", chiselbrow_store(NULL, 0, NULL, 0), CHISELBROW_REFUSED_SHORT, 0);
     expect("no output", chiselbrow_store(cited, sizeof cited, NULL, 0),
            CHISELBROW_REFUSED_OUTPUT, 0);
@@ -53,10 +91,12 @@ int main(void)
     /* Answers written out, so that the accessors are held to the layout. */
     expect("accepted, written out", UINT64_C(2120808), 0, 2120808);
     expect("refused 8, written out", UINT64_C(8) << 32, 8, 0);
+    expect("refused 11, written out", UINT64_C(11) << 32, CHISELBROW_REFUSED_RETIRED, 0);
     expect_telling("refused 10, written out", UINT64_C(10) << 32 | UINT64_C(12) << 40, 10, 12, 0);
     expect_telling("the largest of each", UINT64_C(0xFFFFFFFFFFFF), 0xFF, 0xFF, 0xFFFFFFFFu);
     expect("the largest day", UINT64_C(0xFFFFFFFF), 0, 0xFFFFFFFFu);
 
+    check_convert();
     if (failures != 0)
         return 1;
     printf("null: empty buffers are refused as they must be\n");

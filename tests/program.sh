@@ -1,6 +1,6 @@
 #!/usr/bin/env bash
-# What the program writes, and how it ends: nothing for nothing, case 9, records of Jingchu, random streams, and streams
-# cut at every length. SEED=N repeats a run.
+# What the program writes, and how it ends: nothing for nothing, case 9, records of Jingchu, names and kinds of all
+# sorts, random streams, and streams cut at every length. SEED=N repeats a run.
 set -euo pipefail
 cd "$(dirname "$0")/.."
 name=program
@@ -16,30 +16,25 @@ run build/chiselbrow < /dev/null
 told 'no input' 0 /dev/null ''
 
 cat > "$scratch/expected" << 'END'
-G 1094 5 1 2120808 37
-G 1094 5 1 2120808 37
-G 1094 5 1 2120808 37
-G 1094 5 1 2120808 37
+G 1094 5 1 2120808 38
+G 1094 5 1 2120808 38
+G 1094 5 1 2120808 38
+G 1094 5 1 2120808 38
 refused 1
 END
 run build/chiselbrow < examples/case-9.bin
 told 'case 9' 1 "$scratch/expected" 'chiselbrow: standard input: no record at byte 38'
-
-# The bytes that standard input has in hex.
-bytes() {
-    printf '%b' "$(tr -d ' \n' | sed 's/../\\x&/g')"
-}
 
 # Jingchu: the first day of a leap month in all four kinds; leap months that are not there; days outside of years 1 to
 # 3000, among them those around count day 0, which is 330191, and the first and the last day within. And two systems
 # that there are not.
 bytes > "$scratch/jingchu" << 'END'
 0A 00 01 00 03 EE 00 0A 01 01
-0A 00 02 00 03 EE 00 0A 01 18
+0A 00 05 00 03 EE 00 0A 01 19
 09 00 03 00 03 EE 00 63 01
 09 00 04 00 03 BB 97 1B 00
 0A 00 01 00 03 EE 00 0B 01 01
-0A 00 02 00 03 ED 00 0A 01 18
+0A 00 05 00 03 ED 00 0A 01 19
 09 00 04 00 03 00 00 00 00
 09 00 04 00 03 01 00 00 00
 09 00 04 00 03 CE 09 05 00
@@ -53,10 +48,10 @@ bytes > "$scratch/jingchu" << 'END'
 09 00 04 00 00 BB 97 1B 00
 END
 cat > "$scratch/expected" << 'END'
-W 238 10* 1 1808315 24
-W 238 10* 1 1808315 24
-W 238 10* 1 1808315 24
-W 238 10* 1 1808315 24
+W 238 10* 1 1808315 25
+W 238 10* 1 1808315 25
+W 238 10* 1 1808315 25
+W 238 10* 1 1808315 25
 refused 10 10
 refused 10 0
 refused 7
@@ -65,14 +60,53 @@ refused 7
 refused 7
 refused 7
 refused 7
-W 1 11 1 1721407 56
-W 3000 10 29 2817138 7
+W 1 11 1 1721407 57
+W 3000 10 29 2817138 8
 refused 7
 refused 4
 refused 4
 END
 run build/chiselbrow < "$scratch/jingchu"
 told 'records of Jingchu' 0 "$scratch/expected" ''
+
+# Names at the end of the round and past it, all of Guantian 1092, month 12; the retired kind, whole and with other
+# lengths; and kinds that there are not.
+bytes > "$scratch/kinds" << 'END'
+0A 00 05 00 01 44 04 0C 00 3C
+0A 00 05 00 01 44 04 0C 00 01
+0A 00 05 00 01 44 04 0C 00 00
+0A 00 05 00 01 44 04 0C 00 3D
+0A 00 05 00 01 44 04 0C 00 FF
+0A 00 02 00 01 44 04 0C 00 3B
+0A 00 02 00 04 44 04 0C 00 FF
+04 00 02 00
+09 00 02 00 01 44 04 0C 00
+0B 00 02 00 01 44 04 0C 00 3B 00
+0A 00 00 00 01 44 04 0C 00 01
+0A 00 06 00 01 44 04 0C 00 01
+0A 00 02 01 01 44 04 0C 00 01
+04 00 05 00
+09 00 05 00 01 44 04 0C 00
+END
+cat > "$scratch/expected" << 'END'
+G 1092 12 9 2119930 60
+G 1092 12 10 2119931 1
+refused 7
+refused 7
+refused 7
+refused 11
+refused 11
+refused 11
+refused 11
+refused 11
+refused 2
+refused 2
+refused 2
+refused 3
+refused 3
+END
+run build/chiselbrow < "$scratch/kinds"
+told 'names and kinds' 0 "$scratch/expected" ''
 
 # Ten streams that stay the same, ten new ones and a large one.
 whole() {

@@ -24,6 +24,11 @@ told() {
     [ "$error" = "${line:+$line$'\n'}" ] || fail "$what: on standard error: ${error%$'\n'}"
 }
 
+# The bytes that standard input has in hex.
+bytes() {
+    printf '%b' "$(tr -d ' \n' | sed 's/../\\x&/g')"
+}
+
 # Where the records of a file end, one line each after a line with 0. At the last of them begins what is no record.
 record_ends() {
     od -An -v -tu1 -w1 "$1" | awk '

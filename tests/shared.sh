@@ -12,8 +12,8 @@ expect() {
     exit 1
 }
 
-declared=$(sed -n '/inline/!s/^[a-z].* \(chiselbrow_[a-z_]*\)(.*/\1/p' include/chiselbrow.h)
-expect exports "${declared:?}" "$(nm -D --defined-only --format=just-symbols "$library")"
+declared=$(sed -n '/inline/!s/^[a-z].* \(chiselbrow_[a-z_]*\)(.*/\1/p' include/chiselbrow.h | LC_ALL=C sort)
+expect exports "${declared:?}" "$(nm -D --defined-only --format=just-symbols "$library" | LC_ALL=C sort)"
 expect 'what others must define' '' "$(nm -D --undefined-only "$library")"
 major=$(sed -n 's/^#define CHISELBROW_VERSION "\([0-9]*\)\..*/\1/p' include/chiselbrow.h)
 dynamic=$(readelf -dW "$library")
@@ -40,4 +40,4 @@ expect 'day 30 of a month of 29' '1 refused 7' "$(example 1 1094 5 0 30)"
 expect 'year 70000' '1 refused 5' "$(example 1 70000 5 0 1)"
 expect 'month -1' '1 refused 6' "$(example 1 1094 -1 0 1)"
 expect 'no day' '2 ' "$(example 1 1094 5 0)"
-echo "shared: $declared is all that the shared library exports, and Python calls it"
+echo "shared: ${declared//$'\n'/ and } are all that the shared library exports, and Python calls it"

@@ -9,7 +9,8 @@ use crate::reckoning::{
     name_of, Moment, Month, System, Table, Tables, Year, FIRST_YEAR, LAST_YEAR, SYSTEMS,
 };
 use crate::requests::{Answer, Number};
-use crate::streams::{citation_of, leap_marks};
+use crate::retired_cases;
+use crate::streams::{citation_of, leap_marks, KINDS};
 
 pub struct Checks {
     pub passed: u64,
@@ -17,7 +18,7 @@ pub struct Checks {
 }
 
 impl Checks {
-    fn that(&mut self, holds: bool, what: impl Fn() -> String) {
+    pub fn that(&mut self, holds: bool, what: impl Fn() -> String) {
         if holds {
             self.passed += 1;
         } else {
@@ -25,7 +26,7 @@ impl Checks {
         }
     }
 
-    fn same<T: PartialEq + std::fmt::Debug>(&mut self, what: &str, got: T, paper: T) {
+    pub fn same<T: PartialEq + std::fmt::Debug>(&mut self, what: &str, got: T, paper: T) {
         self.that(got == paper, || format!("{}: got {:?}, the paper has {:?}", what, got, paper));
     }
 }
@@ -44,6 +45,7 @@ pub fn run(tables: &Tables) -> Checks {
     jingchu_days(tables, &mut checks);
     nineteen_years(tables, &mut checks);
     jingchu_remainders(tables, &mut checks);
+    retired_cases::run(tables, &mut checks);
     for system in SYSTEMS {
         let table = tables.table(system.number).unwrap();
         facts(table, &mut checks);
@@ -55,13 +57,14 @@ pub fn run(tables: &Tables) -> Checks {
         every_told_month(tables, table, &mut checks);
         every_pentad(table, &mut checks);
         every_day_in_force(table, &mut checks);
+        retired_cases::every_old_day(tables, table, &mut checks);
     }
     checks
 }
 
 /// The refusal of a record stored with so much room, and the month told with
 /// it; both are 0 when it is accepted.
-fn refusal_with_room(tables: &Tables, record: &[u8], room: usize) -> (u8, u8) {
+pub fn refusal_with_room(tables: &Tables, record: &[u8], room: usize) -> (u8, u8) {
     match store(tables, record, room) {
         Ok(_) => (0, 0),
         Err(refusal) => (refusal.number, refusal.leap_month),
@@ -69,11 +72,11 @@ fn refusal_with_room(tables: &Tables, record: &[u8], room: usize) -> (u8, u8) {
 }
 
 /// The same with room enough.
-fn refusal(tables: &Tables, record: &[u8]) -> (u8, u8) {
+pub fn refusal(tables: &Tables, record: &[u8]) -> (u8, u8) {
     refusal_with_room(tables, record, 10)
 }
 
-fn lines_of(tables: &Tables, input: &[u8]) -> String {
+pub fn lines_of(tables: &Tables, input: &[u8]) -> String {
     let mut out = Vec::new();
     lines(tables, input, &mut out).unwrap();
     String::from_utf8(out).unwrap()
@@ -91,7 +94,7 @@ fn by_ordinal(tables: &Tables, system: u8, year: u16, ordinal: u16) -> (u8, u8) 
 
 fn by_name(tables: &Tables, system: u8, year: u16, month: u8, leap: u8, name: u8) -> (u8, u8) {
     let y = year.to_le_bytes();
-    refusal(tables, &[10, 0, 2, 0, system, y[0], y[1], month, leap, name])
+    refusal(tables, &[10, 0, 5, 0, system, y[0], y[1], month, leap, name])
 }
 
 /// One of these two: system, year, month, leap byte, and the day or the name.
@@ -116,14 +119,14 @@ fn examples(tables: &Tables, checks: &mut Checks) {
 
     let y = guantian.year(1092);
     checks.same("1, day", y.solstice_day, 2119895);
-    checks.same("1, name", name_of(y.solstice_day), 24);
+    checks.same("1, name", name_of(y.solstice_day), 25);
     checks.same("1, remainder", y.solstice_remainder, 2_320);
 
     let moon = y.months[0].new_moon;
     checks.same("2, parts before", parts_to_solstice(guantian.system, y), 28_067);
     checks.same("2, day", y.head, 2119892);
     checks.same("2, first month's head", y.months[0].head, 2119892);
-    checks.same("2, name", name_of(y.head), 21);
+    checks.same("2, name", name_of(y.head), 22);
     checks.same("2, remainder", guantian.system.remainder_of_moon(moon), 10_343);
 
     checks.same("3, months", y.months.len(), 12);
@@ -133,8 +136,8 @@ fn examples(tables: &Tables, checks: &mut Checks) {
 
     checks.same("4, number", (y.months[0].number, y.months[0].leap), (11, false));
     checks.same("4, days", y.months[0].length, 30);
-    checks.same("4, name 50", by_name(tables, 1, 1092, 11, 0, 50), (0, 0));
-    checks.same("4, name 51", by_name(tables, 1, 1092, 11, 0, 51), (7, 0));
+    checks.same("4, name 51", by_name(tables, 1, 1092, 11, 0, 51), (0, 0));
+    checks.same("4, name 52", by_name(tables, 1, 1092, 11, 0, 52), (7, 0));
 
     let y = guantian.year(1094);
     checks.same("5, head", y.head, 2120601);
@@ -150,18 +153,18 @@ fn examples(tables: &Tables, checks: &mut Checks) {
 
     let y = jiyuan.year(1106);
     checks.same("7, day", y.solstice_day, 2125008);
-    checks.same("7, name", name_of(y.solstice_day), 37);
+    checks.same("7, name", name_of(y.solstice_day), 38);
     checks.same("7, remainder", y.solstice_remainder, 4_536);
 
     let moon = y.months[0].new_moon;
     checks.same("8, parts before", parts_to_solstice(jiyuan.system, y), 50_806);
     checks.same("8, day", y.head, 2125001);
-    checks.same("8, name", name_of(y.head), 30);
+    checks.same("8, name", name_of(y.head), 31);
     checks.same("8, remainder", jiyuan.system.remainder_of_moon(moon), 4_760);
     checks.same("8, months", y.months.len(), 12);
 
     let first = [0x0A, 0x00, 0x01, 0x00, 0x01, 0x46, 0x04, 0x05, 0x00, 0x01];
-    let second = [0x0A, 0x00, 0x02, 0x00, 0x01, 0x46, 0x04, 0x05, 0x00, 0x25];
+    let second = [0x0A, 0x00, 0x05, 0x00, 0x01, 0x46, 0x04, 0x05, 0x00, 0x26];
     let third = [0x09, 0x00, 0x03, 0x00, 0x01, 0x46, 0x04, 0xD0, 0x00];
     let fourth = [0x09, 0x00, 0x04, 0x00, 0x01, 0x68, 0x5C, 0x20, 0x00];
     let four: [&[u8]; 4] = [&first, &second, &third, &fourth];
@@ -178,13 +181,13 @@ fn examples(tables: &Tables, checks: &mut Checks) {
     // input at all.
     let mut input = four.concat();
     input.push(0);
-    let expected = "G 1094 5 1 2120808 37\n".repeat(4) + "refused 1\n";
+    let expected = "G 1094 5 1 2120808 38\n".repeat(4) + "refused 1\n";
     checks.same("the program", lines_of(tables, &input), expected);
     checks.same("the program on nothing", lines_of(tables, &[]), String::new());
 
     // Two days of one name, sixty apart.
-    checks.same("shared name, first", name_of(2120808), 37);
-    checks.same("shared name, second", name_of(2120868), 37);
+    checks.same("shared name, first", name_of(2120808), 38);
+    checks.same("shared name, second", name_of(2120868), 38);
 }
 
 /// Records that name one day are all stored as the same ten bytes, and refused
@@ -218,15 +221,15 @@ fn days_with_qi_and_moon(tables: &Tables, checks: &mut Checks) {
 }
 
 /// Leap 5 of Guantian 1094, whose leap month is 4, and of Guantian 1092, which
-/// has none, in kinds 1 and 2; and leap 4 of 1094, which is there.
+/// has none, in kinds 1 and 5; and leap 4 of 1094, which is there.
 const LEAP_5_BY_DATE: [u8; 10] = [0x0A, 0x00, 0x01, 0x00, 0x01, 0x46, 0x04, 0x05, 0x01, 0x01];
-const LEAP_5_BY_NAME: [u8; 10] = [0x0A, 0x00, 0x02, 0x00, 0x01, 0x46, 0x04, 0x05, 0x01, 0x25];
+const LEAP_5_BY_NAME: [u8; 10] = [0x0A, 0x00, 0x05, 0x00, 0x01, 0x46, 0x04, 0x05, 0x01, 0x26];
 const NO_LEAP_BY_DATE: [u8; 10] = [0x0A, 0x00, 0x01, 0x00, 0x01, 0x44, 0x04, 0x05, 0x01, 0x01];
-const NO_LEAP_BY_NAME: [u8; 10] = [0x0A, 0x00, 0x02, 0x00, 0x01, 0x44, 0x04, 0x05, 0x01, 0x25];
+const NO_LEAP_BY_NAME: [u8; 10] = [0x0A, 0x00, 0x05, 0x00, 0x01, 0x44, 0x04, 0x05, 0x01, 0x26];
 const LEAP_4_BY_DATE: [u8; 10] = [0x0A, 0x00, 0x01, 0x00, 0x01, 0x46, 0x04, 0x04, 0x01, 0x01];
 
 /// A record with one byte changed.
-fn changed(record: [u8; 10], at: usize, byte: u8) -> [u8; 10] {
+pub fn changed(record: [u8; 10], at: usize, byte: u8) -> [u8; 10] {
     let mut other = record;
     other[at] = byte;
     other
@@ -303,7 +306,7 @@ fn before_ten(tables: &Tables, checks: &mut Checks, by: By) {
     }
 }
 
-/// Refusals 1 to 3 before 10, and 7 and 8 after it.
+/// Refusals 1, 2, 11 and 3 before 10, and 7 and 8 after it.
 fn around_ten(tables: &Tables, checks: &mut Checks) {
     for record in [LEAP_5_BY_DATE, LEAP_5_BY_NAME] {
         for length in 0..10 {
@@ -313,7 +316,8 @@ fn around_ten(tables: &Tables, checks: &mut Checks) {
         checks.same("Q-3, length field 9", refusal(tables, &changed(record, 0, 9)), (3, 0));
         checks.same("Q-3, kind 3 in ten bytes", refusal(tables, &changed(record, 2, 3)), (3, 0));
         checks.same("Q-3, kind 0", refusal(tables, &changed(record, 2, 0)), (2, 0));
-        checks.same("Q-3, kind 5", refusal(tables, &changed(record, 2, 5)), (2, 0));
+        checks.same("Q-3, kind 6", refusal(tables, &changed(record, 2, 6)), (2, 0));
+        checks.same("Q-3, kind 2", refusal(tables, &changed(record, 2, 2)), (11, 0));
         for room in 0..10 {
             let no_day = changed(record, 9, 255);
             checks.same("Q-3, no room", refusal_with_room(tables, &record, room), (10, 4));
@@ -354,28 +358,28 @@ fn pages_of_pentads(checks: &mut Checks) {
     let guantian = page_of("1", "1092").unwrap();
     checks.same("Q-4, lines", guantian.len(), 73);
     checks.same("Q-4, first line", guantian[0].as_str(), "pentads G 1092");
-    checks.same("Q-4, solstice", guantian[1].as_str(), "pentad 0 2119895 24 2320 0");
-    checks.same("Q-4, a step on", guantian[2].as_str(), "pentad 1 2119900 29 3196 4");
-    checks.same("Q-4, a qi on", guantian[4].as_str(), "pentad 3 2119910 39 4948 12");
-    checks.same("Q-4, a step back", guantian[72].as_str(), "pentad 71 2120255 24 4373 32");
+    checks.same("Q-4, solstice", guantian[1].as_str(), "pentad 0 2119895 25 2320 0");
+    checks.same("Q-4, a step on", guantian[2].as_str(), "pentad 1 2119900 30 3196 4");
+    checks.same("Q-4, a qi on", guantian[4].as_str(), "pentad 3 2119910 40 4948 12");
+    checks.same("Q-4, a step back", guantian[72].as_str(), "pentad 71 2120255 25 4373 32");
     let summer = &page_of("1", "1094").unwrap()[37];
-    checks.same("Q-4, summer solstice", summer.as_str(), "pentad 36 2120808 37 3630 0");
+    checks.same("Q-4, summer solstice", summer.as_str(), "pentad 36 2120808 38 3630 0");
 
     let jiyuan = page_of("2", "1106").unwrap();
     checks.same("Q-4, lines", jiyuan.len(), 73);
     checks.same("Q-4, first line", jiyuan[0].as_str(), "pentads J 1106");
-    checks.same("Q-4, solstice", jiyuan[1].as_str(), "pentad 0 2125008 37 4536 0");
-    checks.same("Q-4, a step on", jiyuan[2].as_str(), "pentad 1 2125013 42 5066 55");
-    checks.same("Q-4, a qi on", jiyuan[4].as_str(), "pentad 3 2125023 52 6128 45");
+    checks.same("Q-4, solstice", jiyuan[1].as_str(), "pentad 0 2125008 38 4536 0");
+    checks.same("Q-4, a step on", jiyuan[2].as_str(), "pentad 1 2125013 43 5066 55");
+    checks.same("Q-4, a qi on", jiyuan[4].as_str(), "pentad 3 2125023 53 6128 45");
 
     let jingchu = page_of("3", "237").unwrap();
     checks.same("Q-6, lines", jingchu.len(), 73);
     checks.same("Q-6, first line", jingchu[0].as_str(), "pentads W 237");
-    checks.same("Q-6, solstice", jingchu[1].as_str(), "pentad 0 1807614 43 1161 0");
-    checks.same("Q-6, a step on", jingchu[2].as_str(), "pentad 1 1807619 48 1295 11");
-    checks.same("Q-6, two steps on", jingchu[3].as_str(), "pentad 2 1807624 53 1429 22");
-    checks.same("Q-6, a qi on", jingchu[4].as_str(), "pentad 3 1807629 58 1563 33");
-    checks.same("Q-6, a step back", jingchu[72].as_str(), "pentad 71 1807974 43 1481 25");
+    checks.same("Q-6, solstice", jingchu[1].as_str(), "pentad 0 1807614 44 1161 0");
+    checks.same("Q-6, a step on", jingchu[2].as_str(), "pentad 1 1807619 49 1295 11");
+    checks.same("Q-6, two steps on", jingchu[3].as_str(), "pentad 2 1807624 54 1429 22");
+    checks.same("Q-6, a qi on", jingchu[4].as_str(), "pentad 3 1807629 59 1563 33");
+    checks.same("Q-6, a step back", jingchu[72].as_str(), "pentad 71 1807974 44 1481 25");
 
     for system in NO_SYSTEMS {
         checks.same("Q-4, no such system", page_of(system, "1092"), Err(4));
@@ -471,18 +475,18 @@ fn told_heads(tables: &Tables, checks: &mut Checks) {
 fn jingchu_years(tables: &Tables, checks: &mut Checks) {
     let jingchu = tables.table(3).unwrap();
     for (year, solstice, head, months, days) in [
-        (1, (1721416, 5, 675), (1721407, 56, 186), 12, 354),
-        (2, (1721781, 10, 1_130), (1721761, 50, 1_860), 13, 384),
-        (8, (1723973, 42, 174), (1723946, 15, 3_065), 13, 384),
-        (236, (1807249, 38, 706), (1807222, 11, 4_381), 13, 384),
+        (1, (1721416, 6, 675), (1721407, 57, 186), 12, 354),
+        (2, (1721781, 11, 1_130), (1721761, 51, 1_860), 13, 384),
+        (8, (1723973, 43, 174), (1723946, 16, 3_065), 13, 384),
+        (236, (1807249, 39, 706), (1807222, 12, 4_381), 13, 384),
         // The paper's own solstice.
-        (237, (1807614, 43, 1_161), (1807606, 35, 3_915), 12, 355),
-        (238, (1807979, 48, 1_616), (1807961, 30, 1_030), 13, 384),
-        (239, (1808345, 54, 228), (1808345, 54, 564), 12, 354),
-        (1094, (2120631, 40, 380), (2120631, 40, 940), 12, 354),
-        (3000, (2816791, 20, 1_400), (2816785, 14, 2_474), 12, 354),
+        (237, (1807614, 44, 1_161), (1807606, 36, 3_915), 12, 355),
+        (238, (1807979, 49, 1_616), (1807961, 31, 1_030), 13, 384),
+        (239, (1808345, 55, 228), (1808345, 55, 564), 12, 354),
+        (1094, (2120631, 41, 380), (2120631, 41, 940), 12, 354),
+        (3000, (2816791, 21, 1_400), (2816785, 15, 2_474), 12, 354),
         // No request may name it, but it ends the year before.
-        (3001, (2817157, 26, 12), (2817139, 8, 4_148), 12, 355),
+        (3001, (2817157, 27, 12), (2817139, 9, 4_148), 12, 355),
     ] {
         let y = jingchu.year(year);
         let what = format!("Q-6, {}", year);
@@ -550,23 +554,23 @@ fn jingchu_qi(tables: &Tables, checks: &mut Checks) {
 /// among them those around count day 0.
 fn jingchu_days(tables: &Tables, checks: &mut Checks) {
     let first = [0x0A, 0x00, 0x01, 0x00, 0x03, 0xEE, 0x00, 0x0A, 0x01, 0x01];
-    let second = [0x0A, 0x00, 0x02, 0x00, 0x03, 0xEE, 0x00, 0x0A, 0x01, 0x18];
+    let second = [0x0A, 0x00, 0x05, 0x00, 0x03, 0xEE, 0x00, 0x0A, 0x01, 0x19];
     let third = [0x09, 0x00, 0x03, 0x00, 0x03, 0xEE, 0x00, 0x63, 0x01];
     let fourth = [0x09, 0x00, 0x04, 0x00, 0x03, 0xBB, 0x97, 0x1B, 0x00];
     let four: [&[u8]; 4] = [&first, &second, &third, &fourth];
     stored_alike(tables, checks, "Q-6", &four, (1808315, first));
-    let expected = "W 238 10* 1 1808315 24\n".repeat(4);
+    let expected = "W 238 10* 1 1808315 25\n".repeat(4);
     checks.same("Q-6, the program", lines_of(tables, &four.concat()), expected);
 
     for (year, ordinal, line) in [
-        (1, 1, "W 1 11 1 1721407 56\n"),
-        (1, 354, "W 1 10 30 1721760 49\n"),
+        (1, 1, "W 1 11 1 1721407 57\n"),
+        (1, 354, "W 1 10 30 1721760 50\n"),
         (1, 355, "refused 7\n"),
-        (237, 9, "W 237 11 9 1807614 43\n"),
-        (237, 355, "W 237 10 30 1807960 29\n"),
+        (237, 9, "W 237 11 9 1807614 44\n"),
+        (237, 355, "W 237 10 30 1807960 30\n"),
         (237, 356, "refused 7\n"),
-        (3000, 1, "W 3000 11 1 2816785 14\n"),
-        (3000, 354, "W 3000 10 29 2817138 7\n"),
+        (3000, 1, "W 3000 11 1 2816785 15\n"),
+        (3000, 354, "W 3000 10 29 2817138 8\n"),
         (3000, 355, "refused 7\n"),
     ] {
         let ([y, z], [o, p]) = (u16::to_le_bytes(year), u16::to_le_bytes(ordinal));
@@ -580,8 +584,8 @@ fn jingchu_days(tables: &Tables, checks: &mut Checks) {
         (330_191, "refused 7\n"),
         (330_192, "refused 7\n"),
         (1721406, "refused 7\n"),
-        (1721407, "W 1 11 1 1721407 56\n"),
-        (2817138, "W 3000 10 29 2817138 7\n"),
+        (1721407, "W 1 11 1 1721407 57\n"),
+        (2817138, "W 3000 10 29 2817138 8\n"),
         (2817139, "refused 7\n"),
         (4_294_967_295, "refused 7\n"),
     ] {
@@ -792,7 +796,7 @@ fn names(table: &Table, checks: &mut Checks) {
     while day < table.year(LAST_YEAR + 1).head {
         checks.that(name_of(day) as i128 == name, || format!("{}: day {}", system.letter, day));
         day += 1;
-        name = if name == 59 { 0 } else { name + 1 };
+        name = if name == 60 { 1 } else { name + 1 };
     }
 }
 
@@ -972,7 +976,7 @@ fn every_day(tables: &Tables, table: &Table, checks: &mut Checks) {
         }
         checks.that(place.year as i128 == year, || format!("the year of day {}", day));
         let stored = citation_of(system, 1, *place, day);
-        for kind in 1..=4 {
+        for kind in KINDS {
             let result = store(tables, &citation_of(system, kind, *place, day), 10);
             checks.that(
                 matches!(result, Ok((d, record)) if d as i128 == day && record[..] == stored[..]),
@@ -1023,7 +1027,7 @@ fn every_leap_mark(tables: &Tables, table: &Table, checks: &mut Checks) {
 }
 
 /// Month numbers 0 to 13 of every year with leap bytes 0 to 2, in kinds 1 and
-/// 2, with days and names that are there and others: 10 for every number but
+/// 5, with days and names that are there and others: 10 for every number but
 /// the leap month's, which it tells, and no month told with anything else.
 /// Nor is one told with ordinals that the year lacks.
 fn every_told_month(tables: &Tables, table: &Table, checks: &mut Checks) {

@@ -34,45 +34,56 @@ fn four_bytes(bytes: &[u8], at: usize) -> u32 {
     two_bytes(bytes, at) + 65_536 * two_bytes(bytes, at + 2)
 }
 
-/// The day that a citation names, or the first of refusals 1 to 6, 10 and 7
-/// that holds.
+/// The day that a citation names, or the first of refusals 1, 2, 11, 3 to 6, 10
+/// and 7 that holds.
 pub fn named_day(tables: &Tables, input: &[u8]) -> Result<i128, Refusal> {
-    // 1: too short for a length and a kind
+    let kind = kind_of(input)?;
+    let kinds_length = match kind {
+        1 | 5 => 10,
+        3 | 4 => 9,
+        // 11: a kind that is retired
+        2 => return Err(Refusal::plain(11)),
+        // 2: no such kind
+        _ => return Err(Refusal::plain(2)),
+    };
+    judge_length(input, kinds_length)?;
+    let table = table_of(tables, input)?;
+    match kind {
+        1 => by_day_of_month(year_of(table, input)?, input[7], input[8], input[9]),
+        3 => by_ordinal(year_of(table, input)?, two_bytes(input, 7)),
+        4 => by_day(table, four_bytes(input, 5) as i128),
+        _ => by_name(year_of(table, input)?, input[7], input[8], input[9], name_of),
+    }
+}
+
+/// The kind of a record. 1: too short for a length and a kind.
+pub fn kind_of(input: &[u8]) -> Result<u32, Refusal> {
     if input.len() < 4 {
         return Err(Refusal::plain(1));
     }
-    // 2: no such kind
-    let kind = two_bytes(input, 2);
-    let kinds_length = match kind {
-        1 => 10,
-        2 => 10,
-        3 => 9,
-        4 => 9,
-        _ => return Err(Refusal::plain(2)),
-    };
-    // 3: the length told, or the input's own, is not that of the kind
+    Ok(two_bytes(input, 2))
+}
+
+/// 3: the length told, or the input's own, is not that of the kind.
+pub fn judge_length(input: &[u8], kinds_length: u32) -> Result<(), Refusal> {
     if two_bytes(input, 0) != kinds_length || input.len() != kinds_length as usize {
         return Err(Refusal::plain(3));
     }
-    // 4: no such system
-    let table = match tables.table(input[4]) {
-        Some(table) => table,
-        None => return Err(Refusal::plain(4)),
-    };
-    if kind == 4 {
-        return by_day(table, four_bytes(input, 5) as i128);
-    }
-    // 5: no such year
+    Ok(())
+}
+
+/// The table of a record's system. 4: no such system.
+pub fn table_of<'a>(tables: &'a Tables, input: &[u8]) -> Result<&'a Table, Refusal> {
+    tables.table(input[4]).ok_or(Refusal::plain(4))
+}
+
+/// The year of a record that has one. 5: no such year.
+pub fn year_of<'a>(table: &'a Table, input: &[u8]) -> Result<&'a Year, Refusal> {
     let year = two_bytes(input, 5) as i128;
     if year < FIRST_YEAR || year > LAST_YEAR {
         return Err(Refusal::plain(5));
     }
-    let year = table.year(year);
-    match kind {
-        1 => by_day_of_month(year, input[7], input[8], input[9]),
-        2 => by_name(year, input[7], input[8], input[9]),
-        _ => by_ordinal(year, two_bytes(input, 7)),
-    }
+    Ok(table.year(year))
 }
 
 /// The days of the month with a number and a leap byte.
@@ -113,10 +124,17 @@ fn by_day_of_month(year: &Year, number: u8, leap: u8, wanted: u8) -> Result<i128
     Err(Refusal::plain(7))
 }
 
-/// Kind 2: by looking for the name among the days of the month.
-fn by_name(year: &Year, number: u8, leap: u8, wanted: u8) -> Result<i128, Refusal> {
+/// Kind 5: by looking for the name among the days of the month, which are named
+/// by a rule.
+pub fn by_name(
+    year: &Year,
+    number: u8,
+    leap: u8,
+    wanted: u8,
+    rule: impl Fn(i128) -> u8,
+) -> Result<i128, Refusal> {
     for day in days_of_month(year, number, leap)? {
-        if name_of(day) == wanted {
+        if rule(day) == wanted {
             return Ok(day);
         }
     }
@@ -164,11 +182,14 @@ pub fn stored_record(table: &Table, day: i128) -> [u8; 10] {
 /// The storing step, for an output of that many bytes.
 pub fn store(tables: &Tables, input: &[u8], output_length: usize) -> Result<Stored, Refusal> {
     let day = named_day(tables, input)?;
-    // 8: no room for the record
+    store_day(table_of(tables, input)?, day, output_length)
+}
+
+/// The same of a day that is named. 8: no room for the record.
+pub fn store_day(table: &Table, day: i128, output_length: usize) -> Result<Stored, Refusal> {
     if output_length < 10 {
         return Err(Refusal::plain(8));
     }
-    let table = tables.table(input[4]).unwrap();
     Ok((day as u32, stored_record(table, day)))
 }
 

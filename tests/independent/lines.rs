@@ -1,16 +1,21 @@
 //! The program of paper 01: records from standard input, one line for each.
 
-use crate::citation::{store, Refusal};
+use crate::citation::{store, Refusal, Stored};
 use crate::reckoning::{name_of, Moment, Tables};
 use std::io::{self, Write};
 
 pub fn lines(tables: &Tables, input: &[u8], out: &mut impl Write) -> io::Result<()> {
+    lines_by(input, |record| line(tables, record), out)
+}
+
+/// The same with any line for each record.
+pub fn lines_by(input: &[u8], line: impl Fn(&[u8]) -> String, out: &mut impl Write) -> io::Result<()> {
     let mut left = input;
     // The end says nothing of its own, neither at once nor after a record.
     while !left.is_empty() {
         match first_record(left) {
             Some(length) => {
-                writeln!(out, "{}", line(tables, &left[..length]))?;
+                writeln!(out, "{}", line(&left[..length]))?;
                 left = &left[length..];
             }
             None => {
@@ -38,7 +43,7 @@ pub fn cuts(tables: &Tables, input: &[u8], longest: u64, out: &mut impl Write) -
 
 /// The length of the record that comes first, if its length field can be
 /// believed and all of it is there. A single byte left holds no length field.
-fn first_record(left: &[u8]) -> Option<usize> {
+pub fn first_record(left: &[u8]) -> Option<usize> {
     if left.len() < 2 {
         return None;
     }
@@ -51,8 +56,13 @@ fn first_record(left: &[u8]) -> Option<usize> {
 
 /// The line of one record: its date, register day and name, or its refusal.
 /// The program's own output is long enough, so that 8 never applies.
-fn line(tables: &Tables, record: &[u8]) -> String {
-    match store(tables, record, 10) {
+pub fn line(tables: &Tables, record: &[u8]) -> String {
+    told_line(tables, store(tables, record, 10))
+}
+
+/// The line of what a record is stored as.
+pub fn told_line(tables: &Tables, result: Result<Stored, Refusal>) -> String {
+    match result {
         Err(refusal) => refused_line(refusal),
         Ok((day, stored)) => {
             let day = day as i128;

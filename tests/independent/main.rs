@@ -2,22 +2,27 @@
 //! rules, found by plain searching, to be compared with the library.
 
 mod almanac;
+mod by_name;
 mod cases;
 mod citation;
 mod compare;
+mod conversion;
 mod heads;
 mod lines;
 mod pentads;
 mod random;
 mod reckoning;
+mod renewal;
 mod requests;
+mod retired_cases;
 mod streams;
+mod tally;
 
 use reckoning::{System, Table, Tables};
 use requests::{answers, Number};
 use std::io::{self, BufWriter, Read, Write};
 use std::process::exit;
-use streams::ANSWERS;
+use tally::Tally;
 
 const USAGE: &str = "usage:
   independent year SYSTEM YEAR [LAST]
@@ -32,6 +37,13 @@ const USAGE: &str = "usage:
   independent outside SYSTEM
   independent random SEED COUNT
   independent stream SEED COUNT
+  independent names
+  independent conversions
+  independent old-days SYSTEM
+  independent old-random SEED COUNT
+  independent old-stream SEED COUNT
+  independent former < records
+  independent renew < records
   independent cases";
 
 fn main() {
@@ -55,7 +67,14 @@ fn main() {
         ["marks", system] => streams::marks(&table(system), &mut out),
         ["outside", system] => streams::outside(&table(system), &mut out),
         ["random", seed, count] => random(word(seed), word(count), &mut out),
-        ["stream", seed, count] => stream(word(seed), word(count), &mut out),
+        ["stream", seed, count] => stream(streams::stream, word(seed), word(count), &mut out),
+        ["names"] => by_name::names(&Tables::new(), &mut out),
+        ["conversions"] => by_name::conversions(&Tables::new(), &mut out),
+        ["old-days", system] => by_name::days(&table(system), &mut out),
+        ["old-random", seed, count] => old_random(word(seed), word(count), &mut out),
+        ["old-stream", seed, count] => stream(streams::old_stream, word(seed), word(count), &mut out),
+        ["former"] => renewal::former_lines(&Tables::new(), &records(), &mut out),
+        ["renew"] => renew(&mut out),
         ["cases"] => cases(&mut out),
         _ => usage(),
     };
@@ -122,28 +141,53 @@ fn records() -> Vec<u8> {
 
 fn random(seed: u64, count: u64, out: &mut impl Write) -> io::Result<()> {
     eprintln!("independent: random seed {}", seed);
-    let tally = streams::random(&Tables::new(), seed, count, out)?;
-    let told: Vec<String> = ANSWERS.iter().zip(tally).map(tally_text).collect();
-    eprintln!("independent: {}", told.join(", "));
-    // A run of this size that never meets one of the answers does not test it.
-    if count >= 100_000 && tally.contains(&0) {
-        eprintln!("independent: one of these never came");
+    let (tally, seen) = streams::random(&Tables::new(), seed, count, out)?;
+    let all = tell_tally(&tally, &streams::ANSWERS);
+    enough(all && seen.all(), count, out)
+}
+
+fn old_random(seed: u64, count: u64, out: &mut impl Write) -> io::Result<()> {
+    eprintln!("independent: random seed {}", seed);
+    let [converted, stored] = by_name::random(&Tables::new(), seed, count, out)?;
+    let all = tell_tally(&converted, &by_name::ANSWERS);
+    let then_all = tell_tally(&stored, &by_name::THEN_ANSWERS);
+    enough(all && then_all, count, out)
+}
+
+/// Tells how often each of these answers came, and whether all did.
+fn tell_tally(tally: &Tally, answers: &[u8]) -> bool {
+    eprintln!("independent: {}", tally.text(answers));
+    tally.has_all(answers)
+}
+
+/// A large run that does not meet all that there is does not test it.
+fn enough(all: bool, count: u64, out: &mut impl Write) -> io::Result<()> {
+    if count >= 1_000_000 && !all {
+        eprintln!("independent: an answer, a kind or a name never came");
         out.flush()?;
         exit(1);
     }
     Ok(())
 }
 
-fn tally_text((number, times): (&u8, u64)) -> String {
-    match number {
-        0 => format!("accepted {}", times),
-        _ => format!("refused {}: {}", number, times),
-    }
+fn stream<W: Write>(
+    write: impl Fn(&Tables, u64, u64, &mut W) -> io::Result<()>,
+    seed: u64,
+    count: u64,
+    out: &mut W,
+) -> io::Result<()> {
+    eprintln!("independent: stream seed {}", seed);
+    write(&Tables::new(), seed, count, out)
 }
 
-fn stream(seed: u64, count: u64, out: &mut impl Write) -> io::Result<()> {
-    eprintln!("independent: stream seed {}", seed);
-    streams::stream(&Tables::new(), seed, count, out)
+/// The renewed bytes, and on standard error what is told; the status, too, is
+/// the program's.
+fn renew(out: &mut impl Write) -> io::Result<()> {
+    let renewed = renewal::renew(&records());
+    out.write_all(&renewed.bytes)?;
+    out.flush()?;
+    renewed.told.iter().for_each(|line| eprintln!("{}", line));
+    exit(!renewed.told.is_empty() as i32)
 }
 
 fn cases(out: &mut impl Write) -> io::Result<()> {

@@ -21,6 +21,7 @@ pub struct System {
     pub pentad_units_in_part: i128,
     pub known_year: i128,
     pub elapsed_at_known_year: i128,
+    /// Jiazi is 1 and jimao 16.
     pub name_of_count_day_0: i128,
     /// What is added to a count day; below 0 where the paper subtracts.
     pub register_day_of_count_day_0: i128,
@@ -37,7 +38,7 @@ const GUANTIAN: System = System {
     pentad_units_in_part: 36,
     known_year: 1092,
     elapsed_at_known_year: 5_944_808,
-    name_of_count_day_0: 0,
+    name_of_count_day_0: 1,
     register_day_of_count_day_0: -2_169_182_929,
 };
 
@@ -52,7 +53,7 @@ const JIYUAN: System = System {
     pentad_units_in_part: 60,
     known_year: 1100,
     elapsed_at_known_year: 28_613_460,
-    name_of_count_day_0: 15,
+    name_of_count_day_0: 16,
     register_day_of_count_day_0: -10_448_760_934,
 };
 
@@ -68,7 +69,7 @@ const JINGCHU: System = System {
     pentad_units_in_part: 36,
     known_year: 237,
     elapsed_at_known_year: 4_045,
-    name_of_count_day_0: 0,
+    name_of_count_day_0: 1,
     register_day_of_count_day_0: 330_191,
 };
 
@@ -169,9 +170,9 @@ impl System {
     }
 }
 
-/// The sixty-day name, by one rule for every system.
+/// The sixty-day name, 1 (jiazi) to 60 (guihai), by one rule for every system.
 pub fn name_of(register_day: i128) -> u8 {
-    (register_day + 49).rem_euclid(60) as u8
+    (register_day + 49).rem_euclid(60) as u8 + 1
 }
 
 /// The register day that a qi or a pentad falls on, and the solar parts and

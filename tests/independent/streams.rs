@@ -6,11 +6,13 @@
 //! accepted, the expected ten bytes.
 
 use crate::citation::{answer, store, Refusal, Stored};
+use crate::conversion::former_name_of;
 use crate::random::Random;
 use crate::reckoning::{name_of, Place, Table, Tables, FIRST_YEAR, LAST_YEAR, SYSTEMS};
+use crate::tally::{Seen, Tally};
 use std::io::{self, Write};
 
-fn frame(
+pub fn frame(
     out: &mut impl Write,
     input: &[u8],
     output_length: usize,
@@ -26,26 +28,31 @@ fn frame(
     Ok(())
 }
 
-/// The citation of a day in one of the four kinds, from its place.
+/// The kinds that the storing step takes.
+pub const KINDS: [u8; 4] = [1, 3, 4, 5];
+
+/// The citation of a day in one of these kinds or in the retired one, from its
+/// place.
 pub fn citation_of(system: u8, kind: u8, place: Place, day: i128) -> Vec<u8> {
     let year = place.year.to_le_bytes();
     let leap = place.leap as u8;
     match kind {
         1 => vec![10, 0, 1, 0, system, year[0], year[1], place.month, leap, place.day_of_month],
-        2 => vec![10, 0, 2, 0, system, year[0], year[1], place.month, leap, name_of(day)],
+        2 => vec![10, 0, 2, 0, system, year[0], year[1], place.month, leap, former_name_of(day)],
         3 => {
             let ordinal = place.ordinal.to_le_bytes();
             vec![9, 0, 3, 0, system, year[0], year[1], ordinal[0], ordinal[1]]
         }
-        _ => {
+        4 => {
             let day = (day as u32).to_le_bytes();
             vec![9, 0, 4, 0, system, day[0], day[1], day[2], day[3]]
         }
+        _ => vec![10, 0, 5, 0, system, year[0], year[1], place.month, leap, name_of(day)],
     }
 }
 
 /// A day as it is to be stored.
-fn stored_at(system: u8, place: Place, day: i128) -> Stored {
+pub fn stored_at(system: u8, place: Place, day: i128) -> Stored {
     let mut record = [0; 10];
     record.copy_from_slice(&citation_of(system, 1, place, day));
     (day as u32, record)
@@ -59,7 +66,7 @@ pub fn days(table: &Table, out: &mut impl Write) -> io::Result<()> {
     let mut output_length = 10;
     for place in &table.places {
         let expected = Ok(stored_at(system, *place, day));
-        for kind in 1..=4 {
+        for kind in KINDS {
             frame(out, &citation_of(system, kind, *place, day), output_length, &expected)?;
             output_length = if output_length == 16 { 10 } else { output_length + 1 };
         }
@@ -69,7 +76,7 @@ pub fn days(table: &Table, out: &mut impl Write) -> io::Result<()> {
 }
 
 /// Every month number of years 1 to 3000 with either leap mark, in kinds 1 and
-/// 2, and what is expected by the list of the year's months. The first day of
+/// 5, and what is expected by the list of the year's months. The first day of
 /// such a month is cited; where there is none, that of the unmarked month, so
 /// that nothing but the mark speaks against it.
 pub fn leap_marks(table: &Table) -> Vec<(Vec<u8>, Result<Stored, Refusal>)> {
@@ -83,7 +90,7 @@ pub fn leap_marks(table: &Table) -> Vec<(Vec<u8>, Result<Stored, Refusal>)> {
                 let with = |mark| months.iter().find(|m| m.number == number && m.leap == mark);
                 let day = with(leap).or(with(false)).unwrap().head;
                 let place = Place { leap, ..table.place(day).unwrap() };
-                for kind in 1..=2 {
+                for kind in [1, 5] {
                     let expected = with(leap).map(|_| stored_at(system, place, day)).ok_or(refusal);
                     marked.push((citation_of(system, kind, place, day), expected));
                 }
@@ -121,42 +128,50 @@ pub fn outside(table: &Table, out: &mut impl Write) -> io::Result<()> {
 
 /// What the storing step can answer: 0, accepted, and the refusals in the order
 /// of its checks. 9 is of qi only.
-pub const ANSWERS: [u8; 10] = [0, 1, 2, 3, 4, 5, 6, 10, 7, 8];
+pub const ANSWERS: [u8; 11] = [0, 1, 2, 11, 3, 4, 5, 6, 10, 7, 8];
 
-/// How often each of them came.
-pub type Tally = [u64; ANSWERS.len()];
-
-fn count_in(tally: &mut Tally, result: &Result<Stored, Refusal>) {
-    let number = match result {
-        Ok(_) => 0,
-        Err(refusal) => refusal.number,
-    };
-    let place = ANSWERS.iter().position(|answer| *answer == number);
-    tally[place.expect("an answer that cannot be")] += 1;
-}
+/// How many records in ten are of the retired kind: in what is stored, and in
+/// what is as old as the kind.
+const FEW: usize = 2;
+pub const MOST: usize = 7;
 
 /// Random and damaged records.
-pub fn random(tables: &Tables, seed: u64, count: u64, out: &mut impl Write) -> io::Result<Tally> {
+pub fn random(tables: &Tables, seed: u64, count: u64, out: &mut impl Write) -> io::Result<(Tally, Seen)> {
     let mut random = Random::new(seed);
     let maker = Maker::new(tables);
-    let mut tally = [0; ANSWERS.len()];
+    let (mut tally, mut seen) = (Tally::default(), Seen::new());
     for _ in 0..count {
-        let input = maker.record(&mut random);
-        let lowest = if random.once_in(2) { 0 } else { 10 };
-        let output_length = random.between(lowest, 16);
+        let input = maker.record(&mut random, FEW);
+        let output_length = room(&mut random);
         let result = store(tables, &input, output_length);
-        count_in(&mut tally, &result);
+        tally.count(&result);
+        seen.note(&input);
         frame(out, &input, output_length, &result)?;
     }
-    Ok(tally)
+    Ok((tally, seen))
+}
+
+/// The length of an output, most of which have room.
+pub fn room(random: &mut Random) -> usize {
+    let lowest = if random.once_in(2) { 0 } else { 10 };
+    random.between(lowest, 16)
 }
 
 /// Records one after another whose length fields hold, then some ending.
 pub fn stream(tables: &Tables, seed: u64, count: u64, out: &mut impl Write) -> io::Result<()> {
+    records(tables, seed, count, FEW, out)
+}
+
+/// The same as they were written when the retired kind was in use.
+pub fn old_stream(tables: &Tables, seed: u64, count: u64, out: &mut impl Write) -> io::Result<()> {
+    records(tables, seed, count, MOST, out)
+}
+
+fn records(tables: &Tables, seed: u64, count: u64, retired: usize, out: &mut impl Write) -> io::Result<()> {
     let mut random = Random::new(seed);
     let maker = Maker::new(tables);
     for _ in 0..count {
-        let mut record = maker.record(&mut random);
+        let mut record = maker.record(&mut random, retired);
         if random.once_in(20) {
             let longer = random.between(4, 64);
             while record.len() < longer {
@@ -213,7 +228,7 @@ fn garbage(random: &mut Random, end: &mut Vec<u8>) {
 }
 
 /// Makes records, sound ones and damaged ones.
-struct Maker<'a> {
+pub struct Maker<'a> {
     tables: &'a Tables,
     /// Days in leap months, by system: rare, so they are kept apart.
     leap_days: [Vec<usize>; SYSTEMS.len()],
@@ -222,7 +237,7 @@ struct Maker<'a> {
 }
 
 impl<'a> Maker<'a> {
-    fn new(tables: &'a Tables) -> Maker<'a> {
+    pub fn new(tables: &'a Tables) -> Maker<'a> {
         let mut leap_days = SYSTEMS.map(|_| Vec::new());
         let mut edges = vec![0, 1, u32::MAX - 1, u32::MAX];
         for (system, leap_days) in SYSTEMS.iter().zip(&mut leap_days) {
@@ -241,6 +256,12 @@ impl<'a> Maker<'a> {
 
     /// A record that nothing speaks against, of any kind and system.
     fn valid(&self, random: &mut Random) -> Vec<u8> {
+        let kind = random.pick(&KINDS);
+        self.of_kind(random, kind)
+    }
+
+    /// The record of some day in this kind.
+    fn of_kind(&self, random: &mut Random, kind: u8) -> Vec<u8> {
         let place = random.below(SYSTEMS.len());
         let system = SYSTEMS[place].number;
         let table = self.tables.table(system).unwrap();
@@ -251,16 +272,17 @@ impl<'a> Maker<'a> {
             3 => days - 1 - random.below(800),
             _ => random.below(days),
         };
-        let kind = random.between(1, 4) as u8;
         citation_of(system, kind, table.places[i], table.first_day + i as i128)
     }
 
-    /// A record with no damage, some or much.
-    fn record(&self, random: &mut Random) -> Vec<u8> {
+    /// A record with no damage, some or much; so many in ten are of the retired
+    /// kind at first.
+    pub fn record(&self, random: &mut Random, retired: usize) -> Vec<u8> {
         if random.once_in(25) {
             return (0..random.between(0, 20)).map(|_| random.byte()).collect();
         }
-        let mut record = self.valid(random);
+        let is_retired = random.below(10) < retired;
+        let mut record = if is_retired { self.of_kind(random, 2) } else { self.valid(random) };
         let damages = random.pick(&[0, 0, 1, 1, 1, 1, 1, 2, 2, 3]);
         for _ in 0..damages {
             self.damage(random, &mut record);
@@ -271,6 +293,7 @@ impl<'a> Maker<'a> {
     /// One damage, or a change that happens to be none.
     fn damage(&self, random: &mut Random, record: &mut Vec<u8>) {
         let kind = record.get(2).copied().unwrap_or(0);
+        let has_month = matches!(kind, 1 | 2 | 5);
         match random.below(20) {
             // The length field.
             0 => {
@@ -284,15 +307,15 @@ impl<'a> Maker<'a> {
             1 => {
                 let any = random.below(65_536);
                 let high = kind as usize + 256 * random.between(1, 255);
-                let field = random.pick(&[0, 5, 6, 255, 256, 257, 512, 1024, 65_535, high, high, any]);
+                let field = random.pick(&[0, 2, 6, 255, 256, 257, 258, 512, 1024, 1280, 65_535, high, high, any]);
                 put_two(record, 2, field);
             }
-            // Another kind from 1 to 4, with nothing else changed.
-            2 => put_two(record, 2, random.between(1, 4)),
+            // Another kind from 0 to 7, with nothing else changed.
+            2 => put_two(record, 2, random.below(8)),
             // Another kind, with the length and the length field made to fit.
             3 => {
-                let other = random.between(1, 4);
-                let length = if other <= 2 { 10 } else { 9 };
+                let other = random.between(1, 5);
+                let length = if other == 3 || other == 4 { 9 } else { 10 };
                 record.resize(length, random.byte());
                 put_two(record, 0, length);
                 put_two(record, 2, other);
@@ -311,31 +334,31 @@ impl<'a> Maker<'a> {
                 put_two(record, 5, year);
             }
             // The month.
-            8 if kind <= 2 => {
+            8 if has_month => {
                 let any = random.byte();
                 let month = random.pick(&[0, 1, 11, 12, 13, 255, any]);
                 put(record, 7, month);
             }
-            9 if kind <= 2 => put(record, 7, random.between(1, 12) as u8),
+            9 if has_month => put(record, 7, random.between(1, 12) as u8),
             // The leap byte; most months are not leap.
-            10 if kind <= 2 => {
+            10 if has_month => {
                 let any = random.byte();
                 let leap = random.pick(&[0, 1, 1, 2, 3, 255, any]);
                 put(record, 8, leap);
             }
             // The day of the month, or the name.
-            8..=11 if kind <= 2 => {
+            8..=11 if has_month => {
                 let any = random.byte();
                 let day = random.pick(&[0, 1, 29, 30, 31, 32, 59, 60, 61, 128, 255, any]);
                 put(record, 9, day);
             }
-            12 if kind <= 2 => put(record, 9, random.below(60) as u8),
+            12 if has_month => put(record, 9, random.byte()),
             // The leap mark, wrong for most months; at times also a day or a
             // name, or a month, that is in no year.
-            13 | 14 if kind <= 2 => {
+            13 | 14 if has_month => {
                 put(record, 8, 1);
                 if random.once_in(3) {
-                    put(record, 9, random.pick(&[0, 31, 60, 255]));
+                    put(record, 9, random.pick(&[0, 31, 60, 61, 255]));
                 }
                 if random.once_in(8) {
                     put(record, 7, random.pick(&[0, 13]));

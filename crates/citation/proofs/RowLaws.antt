@@ -1,7 +1,7 @@
 -- Rows of refusals: the first that applies is one number only, and rows may follow rows.
 use Prim.Native.Nat.{ℕ, _<_}
 use mathlib.Core.Path.{_≡_, sym, _∙_}
-use mathlib.Core.Logic.{inl, inr, ⊎-elim}
+use mathlib.Core.Logic.{_⊎_, _↔_, inl, inr, ⊎-elim}
 use mathlib.Core.List.{List, [], _∷_, _++_}
 use native.Mathlib.Omega.{arith}
 use Rattle.reckoning.specs.WordedRefusals.{Row, _when_, FirstOf}
@@ -43,3 +43,31 @@ pub none-applies : (rows : List Row) → Numbered rows → FirstOf rows 0 → No
 none-applies [] k p = tt
 none-applies ((refusal when applies) ∷ rows) k p =
     ⊎-elim (λ a. absurd (omega (arith, a .0, k .0))) (λ a. (a .0, none-applies rows (k .1) (a .1))) p
+
+-- A row that does not apply may be left out.
+pub first-past : {given applies others : Type 0} → (applies → ⊥) → (given × applies) ⊎ ((applies → ⊥) × others) → others
+first-past never p = ⊎-elim (λ a. absurd (never (a .1))) (λ a. a .1) p
+
+-- Rows with the same numbers, that apply alike, give the same.
+abbrev pub Alike : List Row → List Row → Type 0
+Alike [] [] = Unit {0}
+Alike [] (row ∷ rows) = ⊥
+Alike (row ∷ rows) [] = ⊥
+Alike ((m when a) ∷ rows) ((n when b) ∷ others) = (m ≡ n) × (a ↔ b) × Alike rows others
+
+pub first-alike : (rows others : List Row) (n : ℕ) → Alike rows others → FirstOf rows n → FirstOf others n
+first-alike [] [] n alike p = p
+first-alike [] (row ∷ others) n alike p = absurd alike
+first-alike (row ∷ rows) [] n alike p = absurd alike
+first-alike ((m when a) ∷ rows) ((k when b) ∷ others) n alike p =
+    ⊎-elim
+    (λ x. inl (x .0 ∙ alike .0, alike .1 .0 (x .1)))
+    (λ x. inr (λ y. x .0 (alike .1 .1 y), first-alike rows others n (alike .2) (x .1)))
+    p
+
+pub alike-back : (rows others : List Row) → Alike rows others → Alike others rows
+alike-back [] [] alike = tt
+alike-back [] (row ∷ others) alike = absurd alike
+alike-back (row ∷ rows) [] alike = absurd alike
+alike-back ((m when a) ∷ rows) ((k when b) ∷ others) alike =
+    (sym (alike .0), (alike .1 .1, alike .1 .0), alike-back rows others (alike .2))

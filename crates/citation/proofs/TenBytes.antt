@@ -1,10 +1,14 @@
 -- Ten bytes at the front of an output.
-use Prim.Native.Nat.{ℕ, zero, suc, _+_, _≤_}
+use Prim.Native.Nat.{ℕ, zero, suc, _+_, _≤_, _<_}
 use mathlib.Core.Path.{_≡_, sym, ap, _∙_}
+use mathlib.Core.Bool.{true, false, cond}
 use mathlib.Core.List.{List, [], _∷_, _++_}
 use native.Mathlib.Omega.{arith}
 use lib.ListN.{length, getD, drop, drop-of-length-le}
 use lib.Seq.{drop-cons, sets, sets-eq}
+use lib.Dec.{leb}
+use borrow.Author.Tests.{le-leb, lt-leb, leb-true, leb-false}
+use Rattle.citation.specs.Output.{putInto}
 
 -- The elements of a list from place i on, n of them.
 unfoldable pub elements : List ℕ → ℕ → ℕ → List ℕ
@@ -20,6 +24,29 @@ pub elements-all : (l : List ℕ) (n : ℕ) → n ≡ length l → l ≡ element
 elements-all l n e = elements-drop l n 0 (omega arith)
 
 -- A list written element by element over the front of another.
-pub front-set : (l r : List ℕ) → length r ≡ 10 → 10 ≤ length l → sets l 0 (elements r 0 10) ≡ r ++ drop 10 l
+front-set : (l r : List ℕ) → length r ≡ 10 → 10 ≤ length l → sets l 0 (elements r 0 10) ≡ r ++ drop 10 l
 unfolding elements
 front-set l r e h = sets-eq (elements r 0 10) l 0 h ∙ ap (λ t. t ++ drop 10 l) (sym (elements-drop r 10 0 (sym e)))
+
+-- Where there is room for them, and where there is not.
+module _ (l r : List ℕ) where
+  pub put-with-room : length r ≡ 10 → 10 ≤ length l → (true ≡ leb 10 (length l)) × (sets l 0 (elements r 0 10) ≡ putInto r l)
+  unfolding putInto
+  put-with-room e h =
+      let room = le-leb 10 (length l) h in
+      (sym room, front-set l r e h ∙ ap (λ b. cond b (r ++ drop 10 l) l) (sym room))
+
+  pub put-without-room : length l < 10 → (false ≡ leb 10 (length l)) × (l ≡ putInto r l)
+  unfolding putInto
+  put-without-room h =
+      let none = lt-leb 10 (length l) h in
+      (sym none, ap (λ b. cond b (r ++ drop 10 l) l) (sym none))
+
+  -- what was written, by the answer
+  pub put-true : leb 10 (length l) ≡ true → (10 ≤ length l) × (putInto r l ≡ r ++ drop 10 l)
+  unfolding putInto
+  put-true e = (leb-true 10 (length l) e, ap (λ b. cond b (r ++ drop 10 l) l) e)
+
+  pub put-false : leb 10 (length l) ≡ false → (length l < 10) × (putInto r l ≡ l)
+  unfolding putInto
+  put-false e = (leb-false 10 (length l) e, ap (λ b. cond b (r ++ drop 10 l) l) e)

@@ -6,6 +6,8 @@ pub mod Record
 pub mod DayCited
 -- When each numbered refusal applies, in the table's order, and what is told with it.
 pub mod CitationRefusals
+-- A record at the front of a lent output.
+pub mod Output
 -- What the storing step answers and writes, for every input and output.
 pub mod Store
 -- What the demands ask for, in words.

@@ -1,9 +1,10 @@
 -- The cases of a conversion's refusal, in their order.
 use Prim.Native.Nat.{ℕ, _≤_, _<_}
 use mathlib.Core.Path.{_≡_, refl, ap, sym, _∙_}
-use mathlib.Core.Bool.{false}
+use mathlib.Core.Bool.{false, true≢false}
 use mathlib.Core.List.{List}
 use native.Mathlib.Omega.{arith}
+use lib.Dec.{ltb, eqb}
 use lib.ListN.{length}
 use borrow.Author.Tests.{eq-eqb, ne-eqb, lt-ltb, le-ltb}
 use Rattle.calendar.proofs.Rising.{by-order}
@@ -94,3 +95,24 @@ accepted s z =
     (λ h two wrong e. absurd (omega arith))
     (λ h two right far e. absurd (omega arith))
     (λ old right e. old)
+
+-- Whether it is.
+module _ (s : List ℕ) where
+  pub is-not : (Old s → ⊥) → false ≡ eqb (conversionRefusal s) 0
+  is-not never = sym (ne-eqb (conversionRefusal s) 0 (λ z. never (accepted s z)))
+
+  pub is-by-name : lengthField s ≡ 10 → length s ≡ 10 → kindOf s ≡ 2 → ltb (nameField s) 60 ≡ eqb (conversionRefusal s) 0
+  is-by-name field long two =
+      by-order 59 (nameField s)
+      (λ far. le-ltb (nameField s) 60 far ∙ is-not (λ old. omega (arith, old .name)))
+      (λ near.
+      lt-ltb (nameField s) 60 (omega arith) ∙ sym (eq-eqb (conversionRefusal s) 0 (sym (none s (omega arith) two field long near))))
+
+  -- one that is not, and has all but the name
+  pub name-refused : eqb (conversionRefusal s) 0 ≡ false → lengthField s ≡ 10 → length s ≡ 10 → kindOf s ≡ 2 → DAY ≡ conversionRefusal s
+  name-refused other field long two =
+      by-order 59 (nameField s)
+      (no-such-name s (omega arith) two field long)
+      (λ near.
+      let z = sym (none s (omega arith) two field long near) in
+      absurd (true≢false (sym (eq-eqb (conversionRefusal s) 0 z) ∙ other)))

@@ -2,23 +2,42 @@
 use Prim.Native.Nat.{ℕ, _+_, _*_, _^_, _≤_, _<_}
 use mathlib.Core.Path.{_≡_, ap, ap₂, sym, _∙_}
 use mathlib.Core.Bool.{cond}
-use mathlib.Core.List.{List, _++_}
+use mathlib.Core.List.{List, [], _∷_, _++_, append-nil}
 use native.Mathlib.Omega.{arith}
 use lib.Dec.{eqb}
-use lib.ListN.{length, set, take, drop, length-append, length-set, List·getD-append}
-use lib.Seq.{set-append-left, take-length}
-use borrow.Author.Tests.{eq-eqb, ne-eqb, lt-ltb, le-ltb}
+use lib.ListN.{length, set, drop, length-set, drop-of-length-le}
+use borrow.Author.Tests.{eq-eqb, ne-eqb, lt-ltb, le-ltb, le-leb}
 use Rattle.calendar.proofs.Cases.{by-bool}
 use Rattle.reckoning.specs.RefusalNumbers.{KIND, OUTPUT}
-use Rattle.citation.specs.Record.{nameField}
+use Rattle.citation.specs.Record.{byte, nameField}
+use Rattle.citation.specs.Output.{putInto}
+use Rattle.citation.proofs.TenBytes.{elements, elements-all}
 use Rattle.conversion.specs.Conversion.{conversionRefusal, refusalInto, converted, conversionAnswer, convertedInto, renewed, leftWith}
-use Rattle.conversion.proofs.Cases.{accepted}
+use Rattle.conversion.proofs.Cases.{Old, accepted}
 
 -- A record in its place.
 module _ (s : List ℕ) where
-  pub renewed-converted : conversionRefusal s ≡ 0 → converted s ≡ renewed s
-  unfolding renewed
-  renewed-converted z = simp (eq-eqb (conversionRefusal s) 0 z)
+  pub raised-bytes : Old s
+      → 10 ∷ 0 ∷ 5 ∷ 0 ∷ byte s 4 ∷ byte s 5 ∷ byte s 6 ∷ byte s 7 ∷ byte s 8 ∷ (byte s 9 + 1) ∷ [] ≡ converted s
+  unfolding elements
+  raised-bytes old =
+      let field = old .field in
+      let two = old .two in
+      let b0 : 10 ≡ byte s 0 = omega arith in
+      let b1 : 0 ≡ byte s 1 = omega arith in
+      let b3 : 0 ≡ byte s 3 = omega arith in
+      (λ i. b0 i ∷ b1 i ∷ 5 ∷ b3 i ∷ byte s 4 ∷ byte s 5 ∷ byte s 6 ∷ byte s 7 ∷ byte s 8 ∷ (byte s 9 + 1) ∷ [])
+      ∙ ap converted (sym (elements-all s 10 (sym (old .long))))
+
+  -- put into its own place
+  pub renewed-in-place : {bytes : List ℕ} → conversionRefusal s ≡ 0 → bytes ≡ converted s → putInto bytes s ≡ renewed s
+  unfolding putInto renewed
+  renewed-in-place z is =
+      let long = accepted s z .long in
+      ap₂ (λ b r. cond b (r ++ drop 10 s) s) (le-leb 10 (length s) (omega arith)) is
+      ∙ ap (λ r. converted s ++ r) (drop-of-length-le s {i = 10} (omega arith))
+      ∙ append-nil (converted s)
+      ∙ ap (λ b. cond b (converted s) s) (sym (eq-eqb (conversionRefusal s) 0 z))
 
   pub renewed-left : (conversionRefusal s ≡ 0 → ⊥) → s ≡ renewed s
   unfolding renewed
@@ -45,15 +64,15 @@ module _ (s : List ℕ) where
 
 -- A conversion's own refusal stands, then that of its output.
 module _ (s : List ℕ) (room : ℕ) where
-  refusal-kept : (conversionRefusal s ≡ 0 → ⊥) → refusalInto s room ≡ conversionRefusal s
+  pub refusal-kept : (conversionRefusal s ≡ 0 → ⊥) → refusalInto s room ≡ conversionRefusal s
   unfolding refusalInto
   refusal-kept some = simp (ne-eqb (conversionRefusal s) 0 some)
 
-  refusal-output : conversionRefusal s ≡ 0 → room < 10 → refusalInto s room ≡ OUTPUT
+  pub refusal-output : conversionRefusal s ≡ 0 → room < 10 → refusalInto s room ≡ OUTPUT
   unfolding refusalInto
   refusal-output z h = simp (eq-eqb (conversionRefusal s) 0 z, lt-ltb room 10 h)
 
-  refusal-none : conversionRefusal s ≡ 0 → 10 ≤ room → refusalInto s room ≡ 0
+  pub refusal-none : conversionRefusal s ≡ 0 → 10 ≤ room → refusalInto s room ≡ 0
   unfolding refusalInto
   refusal-none z h = simp (eq-eqb (conversionRefusal s) 0 z, le-ltb room 10 h)
 
@@ -80,37 +99,12 @@ module _ (s before : List ℕ) where
   pub no-room : conversionRefusal s ≡ 0 → length before < 10 → Refused s before OUTPUT
   no-room z h = refused-by OUTPUT (refusal-output s (length before) z h) (λ e. omega arith)
 
-  -- or converted, from a copy of the record in the output.
+  -- or converted.
   pub answered : conversionRefusal s ≡ 0 → 10 ≤ length before → 0 ≡ conversionAnswer s (length before)
   answered z h = omega (arith, refusal-none s (length before) z h)
 
-  name-in-front : length s ≡ 10 → nameField (s ++ drop 10 before) ≡ nameField s
-  name-in-front long = List·getD-append s (drop 10 before) 0 9 (omega arith)
-
-  in-front : length s ≡ 10 → converted (s ++ drop 10 before) ≡ converted s ++ drop 10 before
-  in-front long =
-      let rest = drop 10 before in
-      ap₂ (λ l n. set l 9 (n + 1)) (set-append-left s rest 2 5 (omega arith)) (name-in-front long)
-      ∙ set-append-left (set s 2 5) rest 9 (nameField s + 1) (omega (arith, length-set s 2 5))
-
-  copied : conversionRefusal s ≡ 0 → take (length s) s ++ drop (length s) before ≡ s ++ drop 10 before
-  copied z = ap₂ (λ front n. front ++ drop n before) (take-length s) (accepted s z .long)
-
-  -- the copy is of kind 2 too
-  pub ready : {output : List ℕ} → conversionRefusal s ≡ 0 → output ≡ take (length s) s ++ drop (length s) before
-      → (10 ≤ length output) × (nameField output ≤ 59)
-  ready z is =
-      let old = accepted s z in
-      let rest = drop 10 before in
-      let whole = is ∙ copied z in
-      let name = name-in-front (old .long) in
-      (omega (arith, ap length whole, length-append s rest, old .long), omega (arith, ap nameField whole, old .name))
-
-  pub written : {output : List ℕ} → conversionRefusal s ≡ 0 → 10 ≤ length before
-      → output ≡ take (length s) s ++ drop (length s) before
-      → converted output ≡ convertedInto s before
+  pub written : {bytes : List ℕ} → conversionRefusal s ≡ 0 → 10 ≤ length before → bytes ≡ converted s
+      → bytes ++ drop 10 before ≡ convertedInto s before
   unfolding convertedInto
   written z h is =
-      ap converted (is ∙ copied z)
-      ∙ in-front (accepted s z .long)
-      ∙ ap (λ b. cond b (converted s ++ drop 10 before) before) (sym (eq-eqb (refusalInto s (length before)) 0 (refusal-none s (length before) z h)))
+      ap₂ (λ r b. cond b (r ++ drop 10 before) before) is (sym (eq-eqb (refusalInto s (length before)) 0 (refusal-none s (length before) z h)))

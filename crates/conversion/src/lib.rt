@@ -1,9 +1,11 @@
 // The conversion of records of the retired kind 2, which cited a day by its name counted from 0, into kind 5.
 ghost use mathlib.Core.Path.{_≡_};
-ghost use Prim.Native.Nat.{_≤_};
+ghost use mathlib.Core.Bool.{false};
+ghost use lib.Dec.{eqb};
 ghost use lib.ListN.{length};
-ghost use Rattle.citation.specs.Record.{nameField};
 ghost use Rattle.conversion.specs.Conversion.{conversionRefusal, converted, conversionAnswer, convertedInto, renewed, leftWith};
+use citation::output::put;
+use citation::store::REFUSAL_UNIT;
 use little_endian::le16;
 use reckoning::refusal_numbers::DAY;
 use reckoning::refusal_numbers::KIND;
@@ -11,11 +13,25 @@ use reckoning::refusal_numbers::LENGTH;
 use reckoning::refusal_numbers::OUTPUT;
 use reckoning::refusal_numbers::SHORT;
 
-// 2^32: a refusal number stands above the 32 bits of a day.
-const REFUSAL_UNIT: u64 = 4_294_967_296;
+// A record that is converted.
+fn is_old(s: &[u8]) -> bool
+    ensures { λ r. ⌜ r ≡ eqb (conversionRefusal (now (s .entry))) 0 ⌝ }
+{
+    if s.len() != 10 {
+        return false;
+    }
+    if le16(s[0], s[1]) != 10 {
+        return false;
+    }
+    if le16(s[2], s[3]) != 2 {
+        return false;
+    }
+    s[9] < 60
+}
 
-// The refusal of a record by its bytes, 0 where there is none. What it cites is left to the storing step.
-pub fn refusal(s: &[u8]) -> u8
+// The refusal of another.
+fn refuse(s: &[u8]) -> u8
+    requires { ⌜ eqb (conversionRefusal (now s)) 0 ≡ false ⌝ }
     ensures { λ r. ⌜ r ≡ conversionRefusal (now (s .entry)) ⌝ }
 {
     if s.len() < 4 {
@@ -24,26 +40,31 @@ pub fn refusal(s: &[u8]) -> u8
     if le16(s[2], s[3]) != 2 {
         return KIND;
     }
-    if le16(s[0], s[1]) != 10 {
-        return LENGTH;
-    }
     if s.len() != 10 {
         return LENGTH;
     }
-    if 59 < s[9] {
-        return DAY;
+    if le16(s[0], s[1]) != 10 {
+        return LENGTH;
     }
-    0
+    DAY
 }
 
-// A record of kind 2 at the front of a buffer becomes one of kind 5.
-fn raise(buffer: &mut [u8])
-    requires { ⌜ (10 ≤ length (now buffer)) × (nameField (now buffer) ≤ 59) ⌝ }
-    ensures { λ _. ⌜ now (buffer .exit) ≡ converted (now (buffer .entry)) ⌝ }
+// The refusal of a record by its bytes, 0 where there is none. What it cites is left to the storing step.
+pub fn refusal(s: &[u8]) -> u8
+    ensures { λ r. ⌜ r ≡ conversionRefusal (now (s .entry)) ⌝ }
 {
-    let name = buffer[9];
-    buffer[2] = 5;
-    buffer[9] = name + 1;
+    if is_old(s) {
+        return 0;
+    }
+    refuse(s)
+}
+
+// The record of kind 5 for one of kind 2, whose first four bytes are known.
+fn raised(s: &[u8]) -> [u8; 10]
+    requires { ⌜ conversionRefusal (now s) ≡ 0 ⌝ }
+    ensures { λ r. ⌜ r ≡ converted (now (s .entry)) ⌝ }
+{
+    [10, 0, 5, 0, s[4], s[5], s[6], s[7], s[8], s[9] + 1]
 }
 
 // A record in its place: converted, or left where the conversion refuses it. The answer is the refusal of a record of kind
@@ -54,7 +75,8 @@ pub fn renew(cited: &mut [u8]) -> u8
 {
     let refusal = refusal(cited);
     if refusal == 0 {
-        raise(cited);
+        let record = raised(cited);
+        put(cited, record);
         return 0;
     }
     if refusal == KIND {
@@ -74,10 +96,8 @@ pub extern "C" fn chiselbrow_convert(input: &[u8], output: &mut [u8]) -> u64
     if refusal != 0 {
         return refusal as u64 * REFUSAL_UNIT;
     }
-    if output.len() < 10 {
-        return OUTPUT as u64 * REFUSAL_UNIT;
+    if put(output, raised(input)) {
+        return 0;
     }
-    bytes::copy(input, output);
-    raise(output);
-    0
+    OUTPUT as u64 * REFUSAL_UNIT
 }

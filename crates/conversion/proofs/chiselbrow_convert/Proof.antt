@@ -1,10 +1,7 @@
-use Prim.Native.Nat.{_≤_}
 use mathlib.Core.Path.{_≡_, sym, _∙_}
-use native.Mathlib.Omega.{arith}
-use lib.ListN.{length}
+use Rattle.citation.proofs.TenBytes.{put-true, put-false}
 use Rattle.conversion.specs.Conversion.{conversionRefusal}
-use Rattle.conversion.proofs.Cases.{accepted}
-use Rattle.conversion.proofs.Ends.{refused, no-room, answered, ready, written}
+use Rattle.conversion.proofs.Ends.{refused, no-room, answered, written}
 use borrow.Author.Needs.{needs}
 use Rattle.conversion.proofs.chiselbrow_convert.Statement.{statement}
 use Rattle.conversion.proofs.chiselbrow_convert.Tie as tie
@@ -30,39 +27,43 @@ returns c =
     let end = refused _ before (c .before .refusal .ensures) (c .if1 .taken) in
     (end .answer, end .output)
 
+raised-requires : tie.Need-raised-requires
+raised-requires c κs = none (c .before)
+
+put-requires : tie.Need-put-requires
+put-requires c κs = search needs
+
+same-length : tie.Need-same-length
+same-length c = search needs
+
+returns-2 : tie.Need-returns-2
+returns-2 c =
+    let put = c .before .before .before in
+    let made = put .before in
+    let accepted = made .before .before in
+    let before = start (accepted .before) .args .output .now in
+    let there = put-true before _ (sym (put .put .ensures .0) ∙ c .if2 .taken) in (
+      answered _ before (none accepted) (there .0),
+      put .put .ensures .1 ∙ there .1 ∙ written _ before (none accepted) (there .0) (made .raised .ensures),
+    )
+
 cast-result-2 : tie.Need-cast-result-2
 cast-result-2 c = search needs
 
 mul-result-2 : tie.Need-mul-result-2
 mul-result-2 c = search needs
 
-returns-2 : tie.Need-returns-2
-returns-2 c =
-    let before = start (c .before .before) .args .output .now in
-    let end = no-room _ before (none (c .before)) (c .if2 .taken) in
-    (end .answer, end .output)
-
-copy-requires : tie.Need-copy-requires
-copy-requires c κs = let old = accepted _ (none (c .before .before)) in omega (arith, old .long)
-
-raise-requires : tie.Need-raise-requires
-raise-requires c κs =
-    let copied = c .before .before .before in
-    let room = copied .before .before in
-    ready _ (start (room .before .before) .args .output .now) (none (room .before)) (copied .copy .ensures .1)
-
-same-length : tie.Need-same-length
-same-length c = search needs
+same-length-2 : tie.Need-same-length-2
+same-length-2 c = search needs
 
 returns-3 : tie.Need-returns-3
 returns-3 c =
-    let raised = c .before .before in
-    let copied = raised .before .before .before .before in
-    let room = copied .before .before in
-    let before = start (room .before .before) .args .output .now in
-    let none = none (room .before) in
-    let there : 10 ≤ length before = omega (arith, room .if2 .left) in
-    (answered _ before none there, raised .raise .ensures ∙ written _ before none there (copied .copy .ensures .1))
+    let put = c .before .before .before in
+    let accepted = put .before .before .before in
+    let before = start (accepted .before) .args .output .now in
+    let short = put-false before _ (sym (put .put .ensures .0) ∙ c .if2 .left) in
+    let end = no-room _ before (none accepted) (short .0) in
+    (end .answer, put .put .ensures .1 ∙ short .1 ∙ end .output)
 
 pub chiselbrow-convert-spec : {M : Type 1} → statement M
 chiselbrow-convert-spec =
@@ -72,10 +73,11 @@ chiselbrow-convert-spec =
     cast-result
     mul-result
     returns
+    raised-requires
+    put-requires
+    same-length
+    returns-2
     cast-result-2
     mul-result-2
-    returns-2
-    copy-requires
-    raise-requires
-    same-length
+    same-length-2
     returns-3)

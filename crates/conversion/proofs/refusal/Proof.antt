@@ -1,88 +1,20 @@
-use mathlib.Core.Path.{_≡_, sym, _∙_}
-use native.Mathlib.Omega.{arith}
-use Rattle.citation.specs.Record.{lengthField, kindOf}
-use Rattle.conversion.proofs.Cases.{too-short, another-kind, wrong-length, no-such-name, none}
+use mathlib.Core.Path.{sym, _∙_}
+use borrow.Author.Tests.{eqb-true}
 use borrow.Author.Needs.{needs}
 use Rattle.conversion.proofs.refusal.Statement.{statement}
 use Rattle.conversion.proofs.refusal.Tie as tie
 
--- The places that the answers go back to, each from the one after it, and what is known there.
-abbrev start : tie.Else2 → tie.Start
-start c = c .before .before .before .before .before .before
-
-abbrev kind-right : tie.After-le162 → tie.Else2
-kind-right c = c .before .before .before
-
-abbrev length-read : tie.Else4 → tie.After-le162
-length-read c = c .before .before
-
-two : (c : tie.Else2) → kindOf (start c .args .s .now) ≡ 2
-two c = sym (c .before .le16 .ensures .0) ∙ c .if2 .left
-
-ten : (c : tie.Else3) → lengthField (start (kind-right (c .before)) .args .s .now) ≡ 10
-ten c = sym (c .before .le162 .ensures .0) ∙ c .if3 .left
+is-old-requires : tie.Need-is-old-requires
+is-old-requires c κs = search needs
 
 returns : tie.Need-returns
-returns c = too-short _ (c .if1 .taken)
+returns c = sym (eqb-true _ 0 (sym (c .before .is-old .ensures) ∙ c .if1 .taken))
 
-shared-slice-read-le16 : tie.Need-shared-slice-read-le16
-shared-slice-read-le16 c = search needs
-
-shared-slice-read-le16-2 : tie.Need-shared-slice-read-le16-2
-shared-slice-read-le16-2 c = search needs
-
-le16-requires : tie.Need-le16-requires
-le16-requires c κs = search needs
+refuse-requires : tie.Need-refuse-requires
+refuse-requires c κs = sym (c .before .is-old .ensures) ∙ c .if1 .left
 
 returns-2 : tie.Need-returns-2
-returns-2 c = another-kind _ (omega arith) (λ two. c .if2 .taken (c .before .le16 .ensures .0 ∙ two))
-
-shared-slice-read-le16-3 : tie.Need-shared-slice-read-le16-3
-shared-slice-read-le16-3 c = search needs
-
-shared-slice-read-le16-4 : tie.Need-shared-slice-read-le16-4
-shared-slice-read-le16-4 c = search needs
-
-le16-requires-2 : tie.Need-le16-requires-2
-le16-requires-2 c κs = search needs
-
-returns-3 : tie.Need-returns-3
-returns-3 c =
-    let kind = kind-right (c .before) in
-    wrong-length _ (omega arith) (two kind) (λ field long. c .if3 .taken (c .before .le162 .ensures .0 ∙ field))
-
-returns-4 : tie.Need-returns-4
-returns-4 c =
-    let kind = kind-right (c .before .before) in
-    wrong-length _ (omega arith) (two kind) (λ field long. c .if4 .taken long)
-
-shared-slice-read-if5 : tie.Need-shared-slice-read-if5
-shared-slice-read-if5 c = search needs
-
-returns-5 : tie.Need-returns-5
-returns-5 c =
-    let length = c .before .before in
-    no-such-name _ (omega arith) (two (kind-right (length-read length))) (ten (length .before)) (length .if4 .left) (c .if5 .taken)
-
-returns-6 : tie.Need-returns-6
-returns-6 c =
-    let length = c .before .before in
-    none _ (omega arith) (two (kind-right (length-read length))) (ten (length .before)) (length .if4 .left) (omega arith)
+returns-2 c = search needs
 
 pub refusal-spec : {M : Type 1} → statement M
-refusal-spec =
-    tie.close
-    (tie.spec
-    returns
-    shared-slice-read-le16
-    shared-slice-read-le16-2
-    le16-requires
-    returns-2
-    shared-slice-read-le16-3
-    shared-slice-read-le16-4
-    le16-requires-2
-    returns-3
-    returns-4
-    shared-slice-read-if5
-    returns-5
-    returns-6)
+refusal-spec = tie.close (tie.spec is-old-requires returns refuse-requires returns-2)

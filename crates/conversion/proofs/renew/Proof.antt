@@ -1,8 +1,7 @@
 use mathlib.Core.Path.{_≡_, sym, _∙_}
 use native.Mathlib.Omega.{arith}
 use Rattle.conversion.specs.Conversion.{conversionRefusal}
-use Rattle.conversion.proofs.Cases.{accepted}
-use Rattle.conversion.proofs.Ends.{renewed-converted, renewed-left, left-with, left-another}
+use Rattle.conversion.proofs.Ends.{renewed-in-place, renewed-left, left-with, left-another}
 use borrow.Author.Needs.{needs}
 use Rattle.conversion.proofs.renew.Statement.{statement}
 use Rattle.conversion.proofs.renew.Tie as tie
@@ -19,17 +18,23 @@ some c z = c .if1 .left (c .before .refusal .ensures ∙ z)
 refusal-requires : tie.Need-refusal-requires
 refusal-requires c κs = search needs
 
-raise-requires : tie.Need-raise-requires
-raise-requires c κs = let old = accepted _ (none (c .before)) in (omega (arith, old .long), old .name)
+raised-requires : tie.Need-raised-requires
+raised-requires c κs = none (c .before)
+
+put-requires : tie.Need-put-requires
+put-requires c κs = search needs
 
 same-length : tie.Need-same-length
 same-length c = search needs
 
 returns : tie.Need-returns
 returns c =
-    let raise = c .before .before in
-    let none = none (raise .before .before) in
-    (sym none ∙ left-with _ (λ e. omega arith), raise .raise .ensures ∙ renewed-converted _ none)
+    let put = c .before .before in
+    let made = put .before .before in
+    let none = none (made .before .before) in (
+      sym none ∙ left-with _ (λ e. omega arith),
+      put .put .ensures .1 ∙ renewed-in-place _ none (made .raised .ensures),
+    )
 
 same-length-2 : tie.Need-same-length-2
 same-length-2 c = search needs
@@ -53,7 +58,8 @@ renew-spec =
     tie.close
     (tie.spec
     refusal-requires
-    raise-requires
+    raised-requires
+    put-requires
     same-length
     returns
     same-length-2

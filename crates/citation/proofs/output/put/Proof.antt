@@ -1,9 +1,13 @@
-use Rattle.citation.proofs.TenBytes.{elements, front-set}
+use Rattle.citation.proofs.TenBytes.{elements, put-with-room, put-without-room}
 use native.Mathlib.Omega.{arith}
-use lib.ListN.{length-set}
+use mathlib.Core.Path.{_≡_}
+use lib.ListN.{length, length-set}
 use borrow.Author.Needs.{needs}
-use Rattle.citation.proofs.store.put.Statement.{statement}
-use Rattle.citation.proofs.store.put.Tie as tie
+use Rattle.citation.proofs.output.put.Statement.{statement}
+use Rattle.citation.proofs.output.put.Tie as tie
+
+long : (c : tie.Start) → length (c .args .t2) ≡ 10
+long c = search needs
 
 array-read-output : tie.Need-array-read-output
 array-read-output c = search needs
@@ -70,7 +74,12 @@ same-length c = simp length-set (omega arith)
 
 returns : tie.Need-returns
 unfolding elements
-returns c = front-set (c .args .output .now) (c .args .t2) (c .pre .1) (c .pre .0)
+returns c =
+    let start = c .before in
+    put-with-room (start .args .output .now) (start .args .t2) (long start) (c .if1 .taken)
+
+returns-2 : tie.Need-returns-2
+returns-2 c = put-without-room (c .before .args .output .now) (c .before .args .t2) (omega arith)
 
 pub put-spec : {M : Type 1} → statement M
 put-spec =
@@ -97,4 +106,5 @@ put-spec =
     array-read-output-10
     slice-write-output-10
     same-length
-    returns)
+    returns
+    returns-2)
