@@ -15,7 +15,7 @@ use Rattle.little_endian.specs.Number.{le16}
 use Rattle.citation.specs.Record.{byte, lengthField, kindOf, nameField}
 use Rattle.conversion.specs.Conversion.{conversionRefusal, converted, renewed, leftWith}
 use Rattle.conversion.proofs.Cases.{Old, accepted, another-kind}
-use Rattle.conversion.proofs.Ends.{converted-length, renewed-length, renewed-converted, renewed-left, left-with, left-another}
+use Rattle.conversion.proofs.Ends.{converted-length, renewed-length, renewed-left, left-with, left-another}
 use Rattle.framing.specs.Framing.{framing, restOf}
 use Rattle.framing.specs.Run.{textOf}
 use Rattle.framing.proofs.Again.{framing-again}
@@ -36,12 +36,12 @@ module _ (s : List ℕ) where
       omega arith
 
   -- A record is converted, or stays as it is.
-  by-renewed : (P : List ℕ → Type 0) → (conversionRefusal s ≡ 0 → P (converted s)) → P s → P (renewed s)
+  by-renewed : (P : List ℕ → Type 0) → (conversionRefusal s ≡ 0 → P (converted s)) → ((conversionRefusal s ≡ 0 → ⊥) → P s) → P (renewed s)
   unfolding renewed
   by-renewed P changed kept =
       by-bool (eqb (conversionRefusal s) 0)
       (λ e. rw e (changed (eqb-true (conversionRefusal s) 0 e)))
-      (λ e. rw e kept)
+      (λ e. rw e (kept (eqb-false (conversionRefusal s) 0 e)))
 
   -- Converted, it would be refused KIND: it is not converted again.
   refused-again : conversionRefusal s ≡ 0 → conversionRefusal (converted s) ≡ KIND
@@ -54,23 +54,19 @@ module _ (s : List ℕ) where
   same-length-field =
       by-renewed (λ r. lengthField r ≡ lengthField s)
       (λ z. ap₂ le16 (front-kept 0 (omega arith)) (front-kept 1 (omega arith)))
-      refl
+      (λ some. refl)
 
   pub renewed-again : renewed (renewed s) ≡ renewed s
   renewed-again =
-      by-bool (eqb (conversionRefusal s) 0)
-      (λ e.
-      let z = eqb-true (conversionRefusal s) 0 e in
-      ap renewed (sym (renewed-converted s z))
-      ∙ sym (renewed-left (converted s) (λ w. omega (arith, refused-again z)))
-      ∙ renewed-converted s z)
-      (λ e. ap renewed (sym (renewed-left s (eqb-false (conversionRefusal s) 0 e))))
+      by-renewed (λ r. renewed r ≡ r)
+      (λ z. sym (renewed-left (converted s) (λ w. omega (arith, refused-again z))))
+      (λ some. sym (renewed-left s some))
 
   pub left-again : leftWith (renewed s) ≡ leftWith s
   left-again =
       by-renewed (λ r. leftWith r ≡ leftWith s)
       (λ z. sym (left-another (converted s) (refused-again z)) ∙ sym z ∙ left-with s (λ e. omega arith))
-      refl
+      (λ some. refl)
 
 -- The records of what is renewed are those that there were, renewed, and what is left after them is the same.
 pub renewed-framing : (s : List ℕ) → framing (renewedOf s) ≡ record { records = map renewed (framing s .records); rest = restOf s }
