@@ -7,7 +7,7 @@ use mathlib.Core.List.{List, [], _++_}
 use native.Mathlib.Omega.{arith}
 use lib.ListN.{length, take, drop, length-drop, length-append}
 use Rattle.citation.specs.Record.{lengthField}
-use Rattle.framing.specs.Framing.{framed, Framing, recordThen, framing}
+use Rattle.framing.specs.Framing.{framed, Framing, framing}
 use Rattle.framing.specs.Run.{textOf}
 use Rattle.framing.proofs.Framed.{framed-is}
 use Rattle.framing.proofs.Cutting.{by-records, framing-none, framing-more}
@@ -43,11 +43,10 @@ module _ (s : List ℕ) (size : ℕ) where
       let far : n + (length (drop n s) - length (f .rest)) ≡ length s - length (f .rest) =
       omega (arith, length-drop n s, framed-is s e .all-there, rest-shorter (drop n s))
       in
-      let cut : all-by s (framing s) ≡ all-by s (recordThen (take n s) f) = ap (all-by s) (framing-more s e) in
       portion-more s size room e
       ∙ ap (portionThen n line) others
       ∙ ap (λ k. record { read = k; text = line ++ linesOf (f .records) }) far
-      ∙ sym cut
+      ∙ sym (ap (all-by s) (framing-more s e))
 
 pub all-records : (s : List ℕ) (size : ℕ) → 16 * length s ≤ size
     → portionOf s size ≡ record { read = length s - length (framing s .rest); text = linesOf (framing s .records) }

@@ -3,13 +3,13 @@ use Prim.Native.Nat.{ℕ, _+_, _-_, _≤_, _<_}
 use mathlib.Core.Path.{_≡_, refl, ap, ap₂, sym, _∙_}
 use mathlib.Core.List.{List, [], _++_, append-assoc, append-nil}
 use native.Mathlib.Omega.{arith}
-use lib.ListN.{length, take, drop, length-drop, take-append-drop}
+use lib.ListN.{length, take, drop, take-append-drop}
 use lib.Seq.{drop-drop, length-take-le}
 use borrow.Author.Tests.{le-leb, lt-leb}
 use Rattle.calendar.proofs.Rising.{by-order}
 use Rattle.text.specs.Wrote.{Wrote}
 use Rattle.text.proofs.Writing.{wrote-front, wrote-back}
-use Rattle.framing.specs.Framing.{framing, nextOf}
+use Rattle.framing.specs.Framing.{framing}
 use Rattle.framing.proofs.Framed.{Next, next-is, next-none}
 use Rattle.lines.specs.Line.{lineOf}
 use Rattle.lines.specs.Program.{noPortion, portionThen, portionOf, nextWithRoom, progressOf, linesInto, Converted}

@@ -1,5 +1,4 @@
 -- The command line.
-use Prim.Native.Nat.{ℕ}
 use Rattle.process.specs.declared.command_line.Asked.{Asked}
 use Rattle.process.specs.declared.command_line.Asked.the-variants.{Run, Done}
 use Rattle.process.specs.Exit.{Ended}

@@ -10,10 +10,10 @@ use Rattle.calendar.proofs.Cases.{by-bool}
 use Rattle.conversion.specs.Conversion.{renewed}
 use Rattle.framing.specs.Framing.{misframed, framing, restOf}
 use Rattle.framing.specs.Run.{textOf, stops, turnBy}
-use Rattle.framing.proofs.Rest.{rest-length, rest-shorter}
+use Rattle.framing.proofs.Rest.{rest-length}
 use Rattle.renewal.specs.declared.Renewal.{Renewal}
 use Rattle.renewal.specs.Renewal.{renewedOf, renewalOf}
-use Rattle.renewal.proofs.SameLength.{records-length, same-length}
+use Rattle.renewal.proofs.WholeInput.{records-length, same-length}
 use Rattle.renew_run.specs.Turn.{turnText, turnOf, Turned}
 
 module _ (ended : Bool) (s : List ℕ) where
@@ -39,8 +39,7 @@ module _ (ended : Bool) (s : List ℕ) where
 
   records-written : stops ended s ≡ false → Front (length s - length (restOf s))
   records-written e =
-      let text = text-by e ∙ append-nil records in
-      (
+      let text = text-by e ∙ append-nil records in (
         sym (ap length text ∙ records-long),
         take-at records (restOf s) (length s - length (restOf s)) records-long ∙ sym text,
         omega arith,

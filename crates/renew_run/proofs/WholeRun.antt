@@ -1,16 +1,12 @@
 -- However the input comes in pieces, the run writes the whole of it, renewed.
 use Prim.Native.Nat.{ℕ}
-use mathlib.Core.Path.{_≡_, refl, ap, _∙_}
+use mathlib.Core.Path.{_≡_, ap, _∙_}
 use mathlib.Core.List.{List, []}
 use lib.ListN.{length}
-use Rattle.framing.specs.Run.{inputOf, runBy, EndsThere}
+use Rattle.framing.specs.Run.{inputOf, runBy}
 use Rattle.framing.proofs.WholeRun.{run-is-whole}
 use Rattle.renewal.specs.Renewal.{renewer, renewedOf}
-use Rattle.renewal.proofs.SameLength.{same-length}
-
--- What follows a length field that no record has is copied, as that is.
-ends-there : EndsThere renewer
-ends-there r t bad = refl
+use Rattle.renewal.proofs.WholeInput.{same-length, ends-there}
 
 pub run-is-renewed : (reads : List (List ℕ)) → runBy renewer [] reads ≡ renewedOf (inputOf reads)
 run-is-renewed = run-is-whole renewer ends-there

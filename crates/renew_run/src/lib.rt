@@ -1,7 +1,7 @@
 // The run of the program chiselbrow-renew. What it does between two calls of the system is in `turn`; here bytes are moved
 // between that and the system.
 ghost use mathlib.Core.Path.{_≡_};
-ghost use mathlib.Core.Bool.{true, false};
+ghost use mathlib.Core.Bool.{true, false, cond};
 ghost use Prim.Native.Nat.{_≤_, _<_};
 ghost use lib.ListN.{length, take};
 ghost use Rattle.process.specs.Exit.{failed, AnsweredOrFailed, Ended};
@@ -136,9 +136,10 @@ fn stop(buffer: &mut [u8], left: usize, ended: bool, offset: u64, status: u32) -
     copy(buffer)
 }
 
-fn worse(status: u32, refused: bool) -> u32
+// The status after a step with a record that was refused, or with none.
+fn after_step(status: u32, refused: bool) -> u32
     requires { ⌜ AnsweredOrFailed status ⌝ }
-    ensures { λ r. ⌜ AnsweredOrFailed r ⌝ }
+    ensures { λ r. ⌜ (r ≡ cond refused failed status) × AnsweredOrFailed r ⌝ }
 {
     if refused {
         return exit::FAILED;
@@ -161,7 +162,7 @@ fn renew_input(buffer: &mut [u8]) -> u32
             return exit::FAILED;
         }
         offset = std::num::wrapping_add_u64(offset, s.read as u64);
-        status = worse(status, s.refused);
+        status = after_step(status, s.refused);
         if !s.more {
             return stop(buffer, s.left, s.ended, offset, status);
         }

@@ -1,25 +1,25 @@
 -- What is renewed, read again: the same records, renewed, each left as it was left before; so that renewing it again
 -- changes nothing.
-use Prim.Native.Nat.{ℕ, _+_, _*_, _≤_}
+use Prim.Native.Nat.{ℕ, _+_, _≤_}
 use mathlib.Core.Path.{_≡_, refl, ap, ap₂, sym, _∙_}
-use mathlib.Core.Bool.{cond, not, _||_}
+use mathlib.Core.Bool.{not, _||_}
 use mathlib.Core.List.{List, [], _∷_, _++_, map}
 use native.Mathlib.Omega.{arith}
 use lib.Dec.{eqb}
-use lib.ListN.{length, getD, set}
+use lib.ListN.{length, set}
 use lib.Seq.{getD-set-same, getD-set-other}
-use borrow.Author.Tests.{eq-eqb, ne-eqb, eqb-true, eqb-false}
+use borrow.Author.Tests.{eqb-true, eqb-false}
 use Rattle.calendar.proofs.Cases.{by-bool}
 use Rattle.reckoning.specs.RefusalNumbers.{KIND}
 use Rattle.little_endian.specs.Number.{le16}
 use Rattle.citation.specs.Record.{byte, lengthField, kindOf, nameField}
 use Rattle.conversion.specs.Conversion.{conversionRefusal, converted, renewed, leftWith}
-use Rattle.conversion.proofs.Cases.{Old, accepted, another-kind}
+use Rattle.conversion.proofs.Cases.{accepted, another-kind}
 use Rattle.conversion.proofs.Ends.{converted-length, renewed-length, renewed-left, left-with, left-another}
 use Rattle.framing.specs.Framing.{framing, restOf}
 use Rattle.framing.specs.Run.{textOf}
 use Rattle.framing.proofs.Again.{framing-again}
-use Rattle.renewal.specs.Renewal.{renewer, renewedOf, anyRefused}
+use Rattle.renewal.specs.Renewal.{renewedOf, anyRefused}
 
 module _ (s : List ℕ) where
   -- A converted record keeps its first two bytes,

@@ -2,7 +2,7 @@
 use Prim.Native.Nat.{ℕ, _+_, _-_, _≤_, _<_}
 use mathlib.Core.Path.{_≡_, refl, ap, ap₂, sym, _∙_}
 use mathlib.Core.Bool.{Bool, true, false, not, _||_}
-use mathlib.Core.List.{List, [], _++_, append-assoc}
+use mathlib.Core.List.{List, _++_, append-assoc}
 use native.Mathlib.Omega.{arith}
 use lib.Dec.{eqb}
 use lib.ListN.{length, take, drop, length-append, length-drop, take-append-drop}
@@ -14,7 +14,6 @@ use Rattle.framing.specs.Framing.{framed, framing, restOf, nextOf}
 use Rattle.framing.proofs.Framed.{Next, next-is, next-none}
 use Rattle.framing.proofs.Cutting.{framing-none, framing-more}
 use Rattle.framing.proofs.WholeRun.{whole-none, whole-more}
-use Rattle.renewal.specs.declared.Renewal.{Renewal}
 use Rattle.renewal.specs.Renewal.{renewer, renewedOf, anyRefused, renewalOf}
 
 -- Whether a record was refused, by whether each was.

@@ -1,5 +1,4 @@
 use mathlib.Core.Path.{sym}
-use native.Mathlib.Omega.{arith}
 use lib.Seq.{length-take-le}
 use Rattle.renew_run.proofs.Stepping.{failed-step, written-step}
 use borrow.Author.Needs.{needs}

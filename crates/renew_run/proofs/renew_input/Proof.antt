@@ -1,4 +1,4 @@
-use Prim.Native.Nat.{_≤_, _<_}
+use Prim.Native.Nat.{_<_}
 use mathlib.Core.Path.{_≡_}
 use native.Mathlib.Omega.{arith}
 use lib.ListN.{length}
@@ -29,8 +29,8 @@ returns c = search needs
 wrapping-add-u64-requires : tie.Need-wrapping-add-u64-requires Inv-loop μ-loop
 wrapping-add-u64-requires c κs = search needs
 
-worse-requires : tie.Need-worse-requires Inv-loop μ-loop
-worse-requires c κs = search needs
+after-step-requires : tie.Need-after-step-requires Inv-loop μ-loop
+after-step-requires c κs = search needs
 
 stop-requires : tie.Need-stop-requires Inv-loop μ-loop
 stop-requires c κs = search needs
@@ -67,7 +67,7 @@ renew-input-spec =
     same-length
     returns
     wrapping-add-u64-requires
-    worse-requires
+    after-step-requires
     stop-requires
     same-length-2
     returns-2
