@@ -1,6 +1,4 @@
 -- Laws that serve several functions.
--- Bytes moved to the front of their buffer.
-pub mod Moving
 -- One turn, from what its steps leave.
 pub mod Turning
 -- A step, from its turn.

@@ -1,24 +1,24 @@
 -- One turn, from what its steps leave.
-use Prim.Native.Nat.{ℕ, _+_, _*_, _-_, _≤_, _<_}
+use Prim.Native.Nat.{ℕ, _+_, _*_, _-_, _≤_}
 use mathlib.Core.Path.{_≡_, refl, ap, ap₂, sym, subst, _∙_}
-use mathlib.Core.Bool.{Bool, true, false, true≢false, cond, not, _||_}
+use mathlib.Core.Bool.{Bool, true, false, cond, not, _||_}
 use mathlib.Core.List.{List, [], _++_}
 use native.Mathlib.Omega.{arith}
 use lib.ListN.{length, take, drop, length-append, length-drop}
 use lib.Seq.{take-all}
-use Rattle.calendar.proofs.Cases.{by-bool}
 use Rattle.text.specs.Put.{Put}
 use Rattle.text.specs.Wrote.{Wrote}
 use Rattle.text.proofs.Putting.{put-nothing, put-wrote}
 use Rattle.text.proofs.Writing.{wrote-as, wrote-then}
 use Rattle.lines.specs.declared.convert.Progress.{Progress}
-use Rattle.lines.specs.Program.{misframed, framed, framing, linesOf, endingOf, progressOf, portionOf, linesInto, Converted}
-use Rattle.lines.proofs.AllRecords.{all-records, rest-shorter, rest, unfinished}
-use Rattle.chiselbrow_run.specs.Turn.{restOf, stops, turnText, turnOf, atFront, Turned}
-
--- Whether the run goes on before the end of the input, by the test for a length field that no record has.
-pub going : {ended bad answered : Bool} → ended ≡ false → answered ≡ bad → not answered ≡ not (ended || bad)
-going {ended} {bad} {answered} not-ended same = ap₂ (λ e b. not (e || b)) (sym not-ended) same
+use Rattle.framing.specs.Framing.{misframed, framing, restOf}
+use Rattle.framing.specs.Buffer.{atFront}
+use Rattle.framing.specs.Run.{stops, turnBy}
+use Rattle.framing.proofs.Rest.{rest-shorter, rest-is}
+use Rattle.framing.proofs.Stepping.{left-short}
+use Rattle.lines.specs.Program.{linesOf, endingOf, progressOf, portionOf, linesInto, Converted}
+use Rattle.lines.proofs.AllRecords.{all-records, lines-short}
+use Rattle.chiselbrow_run.specs.Turn.{turnText, turnOf, Turned}
 
 -- The line for what is left, where the run goes on and where it does not.
 module _ {b : List ℕ} {at room : ℕ} {more : Bool} (text : List ℕ) where
@@ -31,12 +31,6 @@ module _ {b : List ℕ} {at room : ℕ} {more : Bool} (text : List ℕ) where
 other-way : (b : Bool) (text : List ℕ) → cond (not b) [] text ≡ cond b text []
 other-way true text = refl
 other-way false text = refl
-
--- Where the run goes on, no length field is bad.
-not-bad : (ended bad : Bool) → not (ended || bad) ≡ true → bad ≡ false
-not-bad true bad e = absurd (true≢false (sym e))
-not-bad false true e = absurd (true≢false (sym e))
-not-bad false false e = refl
 
 module _ (ended : Bool) (s before m : List ℕ) (p : Progress) (room : 16 * length s + 64 ≤ length before)
     (converted : Converted s before m p) where
@@ -57,11 +51,11 @@ module _ (ended : Bool) (s before m : List ℕ) (p : Progress) (room : 16 * leng
   part-is =
       take-all (length s - p .read) (drop (p .read) s) (omega (arith, length-drop (p .read) s))
       ∙ ap (λ n. drop n s) read-is
-      ∙ rest s .is
+      ∙ rest-is s
 
   first : Wrote before 0 lines m (p .written)
   first =
-      let short = rest s .lines-short in
+      let short = lines-short s in
       let start : 0 + length lines ≡ length lines = omega arith in
       record {
         is = converted .output ∙ ap (λ q. linesInto q before) all-taken ∙ ap (λ n. lines ++ drop n before) (sym start);
@@ -75,10 +69,10 @@ module _ (ended : Bool) (s before m : List ℕ) (p : Progress) (room : 16 * leng
       → Put m (p .written) 19 (cond more [] (endingOf (take (length s - p .read) (drop (p .read) s)))) after written
       → kept ≡ atFront (drop (p .read) s) s
       → Turned ended s kept before after (record { read = p .read; left = length s - p .read; written = written; more = more })
-  unfolding turnText turnOf
+  unfolding turnBy turnOf
   turned {after} {kept} {written} {more} goes-on ended-by moved =
       let left = drop (p .read) s in
-      let short = rest s .lines-short in
+      let short = lines-short s in
       let less = rest-shorter s in
       let more-is : more ≡ not (stops ended s) = goes-on ∙ ap (λ r. not (ended || misframed r)) part-is in
       let ending-is : cond more [] (endingOf (take (length s - p .read) (drop (p .read) s))) ≡ cond (stops ended s) (endingOf (restOf s)) [] =
@@ -92,9 +86,8 @@ module _ (ended : Bool) (s before m : List ℕ) (p : Progress) (room : 16 * leng
       record {
         is = λ i. record { read = read-is i; left = left-is i; written = written-all i; more = more-is i };
         output = whole .is ∙ ap (λ n. turnText ended s ++ drop n before) start;
-        rest-in-front = moved ∙ ap (λ r. atFront r s) (ap (λ n. drop n s) read-is ∙ rest s .is);
+        rest-in-front = moved ∙ ap (λ r. atFront r s) (ap (λ n. drop n s) read-is ∙ rest-is s);
         left-within = omega (arith, ap length moved, length-append left (drop (length left) s), length-drop (p .read) s);
         written-within = omega (arith, whole .fits, whole .same-length);
-        left-short = λ go. let sound = not-bad ended (misframed (restOf s)) (sym more-is ∙ go) in
-            omega (arith, left-is, unfinished (restOf s) (rest s .no-record) sound);
+        left-short = λ go. omega (arith, left-is, left-short ended s (sym more-is ∙ go));
       }

@@ -8,9 +8,8 @@ ghost use lib.ListN.{length, take};
 ghost use Rattle.process.specs.Exit.{answered, failed, AnsweredOrFailed, Ended};
 ghost use Rattle.chiselbrow_run.specs.Buffers.{Buffers};
 ghost use Rattle.chiselbrow_run.specs.Stepped.{Stepped, ReadAndAnswered};
-use arguments::options;
-use arguments::options::Wish;
-use libc::STDERR_FILENO;
+use process::command_line;
+use process::command_line::Asked;
 use process::exit;
 use process::streams;
 use turn::answer;
@@ -68,20 +67,10 @@ fn read_and_answer(input: &mut [u8], kept: usize, out: &mut [u8]) -> Step
     write_answer(input, kept + got.count, got.count == 0, out)
 }
 
-// The status of a run that stopped with so many bytes left, from the given one on.
 fn stopped(left: usize, offset: u64) -> u32
     ensures { λ r. ⌜ (r ≡ cond (eqb left 0) answered failed) × AnsweredOrFailed r ⌝ }
 {
-    if left == 0 {
-        return exit::ANSWERED;
-    }
-    io::write_all(
-        STDERR_FILENO,
-        b"chiselbrow: standard input: no record at byte ",
-    );
-    io::print_decimal(STDERR_FILENO, offset);
-    io::write_all(STDERR_FILENO, b"\n");
-    exit::FAILED
+    exit::stopped(b"chiselbrow: standard input", left, offset)
 }
 
 // Step after step. A proved loop has to end, so it counts its turns.
@@ -115,10 +104,12 @@ fn convert() -> u32
     convert_input(&mut input, &mut out)
 }
 
-fn help() -> u32
-    ensures { λ r. ⌜ AnsweredOrFailed r ⌝ }
+// Does what the arguments ask, and gives the exit status.
+#[no_mangle]
+pub extern "C" fn chiselbrow_run(version: &[u8]) -> u32
+    ensures { λ r. ⌜ Ended r ⌝ }
 {
-    let text = b"chiselbrow [--help | --version] < records\n\
+    let help = b"chiselbrow [--help | --version] < records\n\
         \n\
         Reads citation records from standard input, one directly after another, and\n\
         writes one line for each: system, year, month with * if leap, day, register\n\
@@ -126,35 +117,16 @@ fn help() -> u32
         leap month, 0 if it has none. A year begins with month 11, late in the common\n\
         year before it. The manual page chiselbrow(1) tells the records, the refusals\n\
         and the exit status.\n";
-    exit::reply(text, b"chiselbrow: standard output")
-}
-
-// What the first argument asks for.
-fn wish() -> Wish {
-    let mut text = io::buffer();
-    let n = os::arg(1, &mut text);
-    options::read(&text[..n])
-}
-
-// Does what the arguments ask, and gives the exit status.
-#[no_mangle]
-pub extern "C" fn chiselbrow_run(version: &[u8]) -> u32
-    ensures { λ r. ⌜ Ended r ⌝ }
-{
     let usage = b"usage: chiselbrow [--help | --version] < records\n";
-    if os::arg_count() < 2 {
+    let asked = command_line::reply(
+        b"chiselbrow",
+        version,
+        help,
+        usage,
+        b"chiselbrow: standard output",
+    );
+    let Asked::Done(status) = asked else {
         return convert();
-    }
-    if 2 < os::arg_count() {
-        return exit::misuse(usage);
-    }
-    match wish() {
-        Wish::Help => help(),
-        Wish::Version => exit::reply_version(
-            b"chiselbrow",
-            version,
-            b"chiselbrow: standard output",
-        ),
-        Wish::Other => exit::misuse(usage),
-    }
+    };
+    status
 }

@@ -1,15 +1,15 @@
 // One turn of the run, between a read and a write: a function on the two buffers.
-ghost use mathlib.Core.Path.{_≡_};
-ghost use mathlib.Core.Bool.{cond, not, _||_};
+ghost use mathlib.Core.Bool.{cond};
 ghost use mathlib.Core.List.{[]};
 ghost use Prim.Native.Nat.{_+_, _*_, _≤_};
-ghost use lib.ListN.{length, drop};
+ghost use lib.ListN.{length};
 ghost use Rattle.text.specs.Put.{Put};
-ghost use Rattle.lines.specs.Program.{misframed, endingOf};
-ghost use Rattle.chiselbrow_run.specs.Turn.{atFront, Turned};
+ghost use Rattle.lines.specs.Program.{endingOf};
+ghost use Rattle.chiselbrow_run.specs.Turn.{Turned};
+use framing::goes_on;
+use framing::keep;
 use lines::convert::convert;
 use lines::convert::ending;
-use lines::convert::is_misframed;
 
 // How many bytes were answered and how many are left, how many were written, and whether the run goes on.
 pub(crate) struct Turn {
@@ -17,29 +17,6 @@ pub(crate) struct Turn {
     pub left: usize,
     pub written: usize,
     pub more: bool,
-}
-
-// Moves the bytes from a place on to the front.
-fn keep(buffer: &mut [u8], from: usize)
-    requires { ⌜ from ≤ length (now buffer) ⌝ }
-    ensures { λ _. ⌜ now (buffer .exit) ≡ atFront (drop from (now (buffer .entry))) (now (buffer .entry)) ⌝ }
-{
-    let left = buffer.len() - from;
-    let mut i = 0;
-    while i < left {
-        buffer[i] = buffer[from + i];
-        i += 1;
-    }
-}
-
-// Whether the run goes on after these bytes, which are no whole record.
-fn goes_on(ended: bool, rest: &[u8]) -> bool
-    ensures { λ r. ⌜ r ≡ not (ended || misframed (now (rest .entry))) ⌝ }
-{
-    if ended {
-        return false;
-    }
-    !is_misframed(rest)
 }
 
 // Puts the line for what is left, unless the run goes on.

@@ -50,7 +50,7 @@ fn refuse(s: &[u8]) -> u8
 }
 
 // The refusal of a record by its bytes, 0 where there is none. What it cites is left to the storing step.
-fn refusal(s: &[u8]) -> u8
+pub fn refusal(s: &[u8]) -> u8
     ensures { λ r. ⌜ r ≡ conversionRefusal (now (s .entry)) ⌝ }
 {
     if is_old(s) {

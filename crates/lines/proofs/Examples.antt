@@ -10,7 +10,9 @@ use Rattle.citation.specs.Store.{judgeRegisterDay, judgeOrdinal, judgeDay, judg
 use Rattle.text.specs.Decimal.{decimal}
 use Rattle.text.specs.Piece.{word, field, fields, year, month}
 use Rattle.lines.specs.Line.{lineOf, storedLine}
-use Rattle.lines.specs.Program.{framingWithin, linesOf, outputOf}
+use Rattle.framing.specs.Framing.{framingWithin}
+use Rattle.framing.specs.Run.{textOf}
+use Rattle.lines.specs.Program.{outputOf}
 
 abbrev pub case-9 : List ℕ
 case-9 =
@@ -33,7 +35,7 @@ abbrev pub last-line : List ℕ
 last-line = refused (49 ∷ 10 ∷ [])
 
 pub shown-run : outputOf (case-9 ++ 0x00 ∷ []) ≡ day-line ++ day-line ++ day-line ++ day-line ++ last-line
-unfolding framingWithin linesOf lineOf storedLine year month word field fields decimal
+unfolding framingWithin textOf lineOf storedLine year month word field fields decimal
     judgeOf lengthRight judgeKind judgeDay judgeName judgeOrdinal judgeRegisterDay yearRefusal ordinalDayOf ordinalDayIn monthOf monthIn dateOf dateIn
 shown-run = refl
 
@@ -51,7 +53,7 @@ system-line = refused (52 ∷ 10 ∷ [])
 
 pub run-of-each-system : outputOf (day-in 1 ++ day-in 2 ++ day-in 3 ++ day-in 4)
     ≡ (71 ∷ 32 ∷ 50 ∷ 51 ∷ 57 ∷ 32 ∷ 49 ∷ 49 ∷ on-the-day) ++ (74 ∷ 32 ∷ 50 ∷ 51 ∷ 57 ∷ 32 ∷ 49 ∷ 49 ∷ on-the-day) ++ (87 ∷ 32 ∷ 50 ∷ 51 ∷ 56 ∷ 32 ∷ 49 ∷ 48 ∷ 42 ∷ on-the-day) ++ system-line
-unfolding framingWithin linesOf lineOf storedLine year month word field fields decimal
+unfolding framingWithin textOf lineOf storedLine year month word field fields decimal
     judgeOf lengthRight judgeKind judgeRegisterDay dateOf dateIn
 run-of-each-system = refl
 
@@ -72,6 +74,6 @@ abbrev pub month-line : List ℕ
 month-line = refused (54 ∷ 10 ∷ [])
 
 pub refused-run : outputOf leap-months ≡ telling-line 52 ++ telling-line 52 ++ telling-line 48 ++ month-line ++ month-line
-unfolding framingWithin linesOf lineOf storedLine word field fields decimal
+unfolding framingWithin textOf lineOf storedLine word field fields decimal
     judgeOf lengthRight judgeKind judgeDay judgeName yearRefusal monthOf monthIn lastLeap
 refused-run = refl

@@ -1,9 +1,7 @@
 -- Laws that serve several functions.
 -- The line of a record by its judgement, and its length.
 pub mod Lines
--- Records framed in a buffer.
-pub mod Framing
--- An input cut into records, one after another.
+-- What is written, record by record.
 pub mod Cutting
 -- One turn of the loop over a buffer.
 pub mod Turn

@@ -3,18 +3,24 @@ use Prim.Native.Nat.{ℕ, _+_, _-_, _≤_, _<_}
 use mathlib.Core.Path.{_≡_, refl, ap, ap₂, sym, _∙_}
 use mathlib.Core.List.{List, [], _++_, append-assoc, append-nil}
 use native.Mathlib.Omega.{arith}
-use lib.ListN.{length, take, drop, length-drop, take-append-drop}
+use lib.ListN.{length, take, drop, take-append-drop}
 use lib.Seq.{drop-drop, length-take-le}
-use borrow.Author.Tests.{le-leb}
-use Rattle.calendar.proofs.Cases.{by-bool}
+use borrow.Author.Tests.{le-leb, lt-leb}
 use Rattle.calendar.proofs.Rising.{by-order}
-use Rattle.citation.specs.Record.{lengthField}
-use Rattle.lines.specs.Line.{lineOf}
 use Rattle.text.specs.Wrote.{Wrote}
-use Rattle.lines.specs.Program.{framed, framing, noPortion, portionThen, portionOf, nextOf, progressOf, linesInto, Converted}
 use Rattle.text.proofs.Writing.{wrote-front, wrote-back}
-use Rattle.lines.proofs.Framing.{Next, next-is}
-use Rattle.lines.proofs.Cutting.{some-bytes, portion-full, portion-none, portion-more}
+use Rattle.framing.specs.Framing.{framing}
+use Rattle.framing.proofs.Framed.{Next, next-is, next-none}
+use Rattle.lines.specs.Line.{lineOf}
+use Rattle.lines.specs.Program.{noPortion, portionThen, portionOf, nextWithRoom, progressOf, linesInto, Converted}
+use Rattle.lines.proofs.Cutting.{portion-full, portion-none, portion-more}
+
+-- Where a record is next, 64 bytes of output are.
+room-is : (s : List ℕ) (at size n : ℕ) → n ≡ nextWithRoom s at size → (n ≡ 0 → ⊥) → (64 ≤ size) × Next s at n
+room-is s at size n e some =
+    by-order size 64
+    (λ full. absurd (some (e ∙ simp (lt-leb 64 size full))))
+    (λ room. (room, next-is s at n (e ∙ simp (le-leb 64 size room)) some))
 
 -- The lines so far, and then what the rest of the output takes, are what the whole takes.
 abbrev pub SoFar : List ℕ → ℕ → ℕ → List ℕ → ℕ → Type 0
@@ -28,7 +34,7 @@ so-far-starts s size out =
     let none : p .read ≡ 0 + p .read = omega arith in
     ap (λ n. record { read = n; text = p .text }) none ∙ ap (λ k. portionThen 0 [] (portionOf s k)) (sym all)
 
-module _ (s out out′ : List ℕ) (read written written′ size n : ℕ) (here : Next s read (size - written) n)
+module _ (s out out′ : List ℕ) (read written written′ size n : ℕ) (room : 64 ≤ size - written) (here : Next s read n)
     (w : Wrote out written (lineOf (take (read + n - read) (drop read s))) out′ written′) where
   one-more : SoFar s size read out written → SoFar s size (read + n) out′ written′
   one-more so-far =
@@ -42,7 +48,7 @@ module _ (s out out′ : List ℕ) (read written written′ size n : ℕ) (here 
       let left : size - written - length line ≡ size - written′ = omega (arith, w .ends, ap length line-is) in
       let p = portionOf (drop (read + n) s) (size - written′) in
       let next : portionOf f (size - written) ≡ portionThen n line p =
-      portion-more f (size - written) (here .room) (here .is-framed)
+      portion-more f (size - written) room (here .is-framed)
       ∙ ap
       (λ k. portionThen k (lineOf (take k f)) (portionOf (drop k f) (size - written - length (lineOf (take k f)))))
       (sym (here .is-length))
@@ -64,25 +70,15 @@ module _ (s out out′ : List ℕ) (read written written′ size n : ℕ) (here 
       ∙ drop-drop (written′ - written) written before
       ∙ ap (λ k. drop k before) on
 
--- The record lies within the buffer.
-read-inside : (s : List ℕ) (read size n : ℕ) → Next s read size n → read ≤ length s → read + n ≤ length s
-read-inside s read size n here h = omega (arith, here .all-there, length-drop read s)
-
 -- Where no record is next, nothing more is taken.
-nothing-next : (s : List ℕ) (at size : ℕ) → nextOf s at size ≡ 0 → portionOf (drop at s) size ≡ noPortion
-unfolding nextOf
+nothing-next : (s : List ℕ) (at size : ℕ) → nextWithRoom s at size ≡ 0 → portionOf (drop at s) size ≡ noPortion
 nothing-next s at size e =
-    by-bool (framed (drop at s))
-    (λ f.
     by-order size 64
     (portion-full (framing (drop at s) .records) size)
-    (λ room.
-    let found : nextOf s at size ≡ lengthField (drop at s) = simp (le-leb 64 size room, f) in
-    absurd (omega (arith, found, some-bytes (drop at s) f))))
-    (portion-none (drop at s) size)
+    (λ room. portion-none (drop at s) size (next-none s at (sym (simp (le-leb 64 size room)) ∙ e)))
 
 module _ (s out before : List ℕ) (read written : ℕ) (so-far : SoFar s (length before) read out written)
-    (no-more : nextOf s read (length before - written) ≡ 0) where
+    (no-more : nextWithRoom s read (length before - written) ≡ 0) where
   all-taken : portionOf s (length before) ≡ record { read = read; text = take written out }
   all-taken =
       let none : read + 0 ≡ read = omega arith in
@@ -107,39 +103,39 @@ pub record Converting (input before out : List ℕ) (read written n : ℕ) : Typ
   pub read-within : read ≤ length input
   pub written-within : written ≤ length out
   pub same-length : length out ≡ length before
-  pub next : n ≡ nextOf input read (length before - written)
+  pub next : n ≡ nextWithRoom input read (length before - written)
   pub so-far : SoFar input (length before) read out written
   pub rest-same : drop written out ≡ drop written before
 
-pub converting-starts : {n : ℕ} (input out : List ℕ) → n ≡ nextOf input 0 (length out) → Converting input out out 0 0 n
+pub converting-starts : {n : ℕ} (input out : List ℕ) → n ≡ nextWithRoom input 0 (length out) → Converting input out out 0 0 n
 converting-starts input out next =
     let all : length out ≡ length out - 0 = omega arith in
     record {
       read-within = omega arith;
       written-within = omega arith;
       same-length = refl;
-      next = next ∙ ap (nextOf input 0) all;
+      next = next ∙ ap (nextWithRoom input 0) all;
       so-far = so-far-starts input (length out) out;
       rest-same = refl;
     }
 
 module _ {input before out : List ℕ} {read written n : ℕ} (κ : Converting input before out read written n) (some : n ≡ 0 → ⊥) where
-  here : Next input read (length before - written) n
-  here = next-is _ _ _ _ (κ .next) some
+  here : (64 ≤ length before - written) × Next input read n
+  here = room-is _ _ _ _ (κ .next) some
 
   -- The next record lies within the buffer, and its line has room.
   pub record-within : read + n ≤ length input
-  record-within = read-inside input read (length before - written) n here (κ .read-within)
+  record-within = here .1 .within
 
   pub line-has-room : written + 64 ≤ length out
-  line-has-room = omega (arith, here .room, κ .written-within, κ .same-length)
+  line-has-room = omega (arith, here .0, κ .written-within, κ .same-length)
 
   pub less-left : length input - (read + n) < length input - read
-  less-left = omega (arith, here .at-least, record-within)
+  less-left = omega (arith, here .1 .at-least, record-within)
 
   pub converting-more : {out′ : List ℕ} {written′ n′ : ℕ}
       → Wrote out written (lineOf (take (read + n - read) (drop read input))) out′ written′
-      → n′ ≡ nextOf input (read + n) (length out′ - written′)
+      → n′ ≡ nextWithRoom input (read + n) (length out′ - written′)
       → Converting input before out′ (read + n) written′ n′
   converting-more {out′} {written′} {n′} w next =
       let long = w .same-length ∙ κ .same-length in
@@ -147,9 +143,9 @@ module _ {input before out : List ℕ} {read written n : ℕ} (κ : Converting i
         read-within = record-within;
         written-within = omega (arith, w .fits, w .same-length);
         same-length = long;
-        next = next ∙ ap (λ k. nextOf input (read + n) (k - written′)) long;
-        so-far = one-more _ _ _ _ _ _ _ _ here w (κ .so-far);
-        rest-same = rest-kept _ _ _ _ _ _ _ _ here w _ (κ .rest-same);
+        next = next ∙ ap (λ k. nextWithRoom input (read + n) (k - written′)) long;
+        so-far = one-more _ _ _ _ _ _ _ _ (here .0) (here .1) w (κ .so-far);
+        rest-same = rest-kept _ _ _ _ _ _ _ _ (here .0) (here .1) w _ (κ .rest-same);
       }
 
 -- Where no record is next, all is converted.

@@ -1,18 +1,18 @@
 -- Buffer after buffer, the program writes what it is to write on the whole input.
-use Prim.Native.Nat.{ℕ, zero, suc, _+_, _≤_}
+use Prim.Native.Nat.{ℕ, _+_}
 use mathlib.Core.Path.{_≡_, refl, subst, ap, ap₂, sym, _∙_}
 use mathlib.Core.Bool.{true}
 use mathlib.Core.List.{List, _++_, append-assoc}
-use native.Mathlib.Omega.{arith}
-use lib.ListN.{length, take, drop}
+use lib.ListN.{take, drop}
 use lib.Seq.{drop-drop}
-use Rattle.calendar.proofs.Cases.{by-bool}
 use Rattle.calendar.proofs.Rising.{by-order}
 use Rattle.citation.specs.Record.{lengthField}
+use Rattle.framing.specs.Framing.{framed, framing}
+use Rattle.framing.proofs.Framed.{still-framed, same-front, same-back}
+use Rattle.framing.proofs.Cutting.{by-records}
 use Rattle.lines.specs.Line.{lineOf}
-use Rattle.lines.specs.Program.{framed, framing, outputOf, Portion, noPortion, portionThen, portionOf}
-use Rattle.lines.proofs.Framing.{still-framed, same-front, same-back}
-use Rattle.lines.proofs.Cutting.{shorter, too-short, output-line, portion-full, portion-none, portion-more}
+use Rattle.lines.specs.Program.{outputOf, Portion, noPortion, portionThen, portionOf}
+use Rattle.lines.proofs.Cutting.{output-line, portion-full, portion-none, portion-more}
 
 module _ (t : List ℕ) where
   -- The lines of a portion of s, and then what is written on its rest and t, are what is written on s and t.
@@ -33,17 +33,11 @@ module _ (t : List ℕ) where
       ∙ ap (λ rest. line ++ rest) (others ∙ ap (λ rest. q .text ++ outputOf (rest ++ t)) on)
       ∙ sym (append-assoc line (q .text) (outputOf (drop (n + q .read) s ++ t)))
 
-  within : (most : ℕ) (s : List ℕ) (size : ℕ) → length s ≤ most → First s (portionOf s size)
-  within zero s size h = nothing-first s size (portion-none s size (too-short s (omega arith)))
-  within (suc most) s size h =
-      by-bool (framed s)
-      (λ e.
+  pub buffer-first : (s : List ℕ) (size : ℕ) → outputOf (s ++ t) ≡ portionOf s size .text ++ outputOf (drop (portionOf s size .read) s ++ t)
+  buffer-first =
+      by-records {P = λ s. (size : ℕ) → First s (portionOf s size)}
+      (λ s e size. nothing-first s size (portion-none s size e))
+      (λ s e others size.
       by-order size 64
       (λ full. nothing-first s size (portion-full (framing s .records) size full))
-      (λ room.
-      subst (First s) (sym (portion-more s size room e))
-      (line-first s _ e (within most (drop (lengthField s) s) _ (omega (arith, shorter s e))))))
-      (λ e. nothing-first s size (portion-none s size e))
-
-  pub buffer-first : (s : List ℕ) (size : ℕ) → outputOf (s ++ t) ≡ portionOf s size .text ++ outputOf (drop (portionOf s size .read) s ++ t)
-  buffer-first s size = within (length s) s size (omega arith)
+      (λ room. subst (First s) (sym (portion-more s size room e)) (line-first s _ e (others _))))

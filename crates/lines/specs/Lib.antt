@@ -1,5 +1,5 @@
 -- What the program writes.
 -- The line of a record.
 pub mod Line
--- Records one after another, and their lines.
+-- The lines of records one after another.
 pub mod Program

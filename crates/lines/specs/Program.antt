@@ -1,51 +1,20 @@
 -- What the program writes, from the input's bytes to the output's bytes: paper 01, "The program".
-use Prim.Native.Nat.{ℕ, zero, suc, _+_, _-_, _≤_}
+use Prim.Native.Nat.{ℕ, _+_, _-_, _≤_}
 use mathlib.Core.Path.{_≡_}
-use mathlib.Core.Bool.{Bool, cond, not, _&&_}
+use mathlib.Core.Bool.{cond}
 use mathlib.Core.List.{List, [], _∷_, _++_}
 use lib.Dec.{leb, eqb}
-use lib.ListN.{length, take, drop}
-use Rattle.reckoning.specs.ComputedRefusals.{outside}
+use lib.ListN.{length, drop}
 use Rattle.reckoning.specs.RefusalNumbers.{SHORT}
-use Rattle.citation.specs.Record.{lengthField}
+use Rattle.framing.specs.Framing.{framing, nextOf}
+use Rattle.framing.specs.Run.{Writer, textOf}
 use Rattle.lines.specs.declared.convert.Progress.{Progress}
 use Rattle.text.specs.Piece.{refusedLine}
 use Rattle.lines.specs.Line.{lineOf}
 
--- A length field is there, and no record has that length.
-abbrev pub misframed : List ℕ → Bool
-misframed s = leb 2 (length s) && outside 4 64 (lengthField s)
-
--- A whole record stands at the front: a length field of 4 to 64, and that many bytes.
-abbrev pub framed : List ℕ → Bool
-framed s = leb 2 (length s) && (not (outside 4 64 (lengthField s)) && leb (lengthField s) (length s))
-
--- An input in order: whole records, and what is left after them.
-pub record Framing : Type 0 where
-  pub records : List (List ℕ)
-  pub rest : List ℕ
-
-abbrev pub noRecord : List ℕ → Framing
-noRecord s = record { records = []; rest = s }
-
--- A record, and then others.
-abbrev pub recordThen : List ℕ → Framing → Framing
-recordThen r others = record { records = r ∷ others .records; rest = others .rest }
-
--- Cut into at most so many records.
-unfoldable pub framingWithin : ℕ → List ℕ → Framing
-framingWithin zero s = noRecord s
-framingWithin (suc most) s =
-    cond (framed s) (recordThen (take (lengthField s) s) (framingWithin most (drop (lengthField s) s))) (noRecord s)
-
--- A record has four bytes or more, so that there are no more of them than bytes.
-abbrev pub framing : List ℕ → Framing
-framing s = framingWithin (length s) s
-
 -- A line for each record;
-unfoldable pub linesOf : List (List ℕ) → List ℕ
-linesOf [] = []
-linesOf (r ∷ records) = lineOf r ++ linesOf records
+abbrev pub linesOf : List (List ℕ) → List ℕ
+linesOf records = textOf lineOf records
 
 -- and `refused 1` where a byte is left.
 abbrev pub endingOf : List ℕ → List ℕ
@@ -54,6 +23,10 @@ endingOf rest = cond (eqb (length rest) 0) [] (refusedLine SHORT)
 -- What the program writes on input s.
 abbrev pub outputOf : List ℕ → List ℕ
 outputOf s = linesOf (framing s .records) ++ endingOf (framing s .rest)
+
+-- So does a run, and it writes nothing of what it reads after that.
+abbrev pub lineWriter : Writer
+lineWriter = record { of = lineOf; ending = endingOf; after = λ bytes. [] }
 
 -- The first records of a buffer: how many bytes they have, and their lines.
 pub record Portion : Type 0 where
@@ -77,8 +50,8 @@ abbrev pub portionOf : List ℕ → ℕ → Portion
 portionOf s size = portion (framing s .records) size
 
 -- The length of the record at a place, where a whole one is there and 64 bytes of output are; else 0.
-unfoldable pub nextOf : List ℕ → ℕ → ℕ → ℕ
-nextOf s at size = cond (leb 64 size && framed (drop at s)) (lengthField (drop at s)) 0
+abbrev pub nextWithRoom : List ℕ → ℕ → ℕ → ℕ
+nextWithRoom s at size = cond (leb 64 size) (nextOf s at) 0
 
 -- A buffer's records converted: how far it was read and how much was written,
 abbrev pub progressOf : Portion → Progress

@@ -1,13 +1,9 @@
 // Records in a buffer, written as lines.
 ghost use mathlib.Core.Path.{_≡_};
-ghost use Prim.Native.Nat.{_+_, _≤_, _<_};
-ghost use lib.ListN.{length, drop};
 ghost use Rattle.text.specs.Put.{Put};
-ghost use Rattle.citation.specs.Record.{lengthField};
-ghost use Rattle.lines.specs.Program.{misframed, nextOf, Converted, endingOf};
+ghost use Rattle.lines.specs.Program.{nextWithRoom, Converted, endingOf};
 use crate::line::put_line;
-use little_endian::le16;
-use reckoning::refusal::outside;
+use framing::next;
 use reckoning::refusal_numbers::SHORT;
 
 // How far a buffer was read, and how much was written.
@@ -16,43 +12,14 @@ pub struct Progress {
     pub written: usize,
 }
 
-// The length field of the record at a place.
-fn length_at(s: &[u8], at: usize) -> u32
-    requires { ⌜ at + 1 < length (now s) ⌝ }
-    ensures { λ r. ⌜ r ≡ lengthField (drop at (now (s .entry))) ⌝ }
-{
-    le16(s[at], s[at + 1])
-}
-
-// The input starts with a length field that no record has.
-pub fn is_misframed(s: &[u8]) -> bool
-    ensures { λ r. ⌜ r ≡ misframed (now (s .entry)) ⌝ }
-{
-    if s.len() < 2 {
-        return false;
-    }
-    outside(4, 64, length_at(s, 0))
-}
-
 // The length of the record at a place, where a whole one is there and 64 bytes of output are; else 0.
-fn next(s: &[u8], at: usize, size: usize) -> usize
-    requires { ⌜ at ≤ length (now s) ⌝ }
-    ensures { λ r. ⌜ r ≡ nextOf (now (s .entry)) at size ⌝ }
+fn next_with_room(s: &[u8], at: usize, size: usize) -> usize
+    ensures { λ r. ⌜ r ≡ nextWithRoom (now (s .entry)) at size ⌝ }
 {
     if size < 64 {
         return 0;
     }
-    if s.len() - at < 2 {
-        return 0;
-    }
-    let n = length_at(s, at);
-    if outside(4, 64, n) {
-        return 0;
-    }
-    if s.len() - at < n as usize {
-        return 0;
-    }
-    n as usize
+    next(s, at)
 }
 
 // Writes the line of each whole record, as far as the output has room.
@@ -61,12 +28,12 @@ pub fn convert(input: &[u8], out: &mut [u8]) -> Progress
 {
     let mut read = 0;
     let mut written = 0;
-    let mut n = next(input, read, out.len());
+    let mut n = next_with_room(input, read, out.len());
     while n != 0 {
         let end = read + n;
         written = put_line(&input[read..end], out, written);
         read = end;
-        n = next(input, read, out.len() - written);
+        n = next_with_room(input, read, out.len() - written);
     }
     Progress {
         read: read,

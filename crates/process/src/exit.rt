@@ -1,5 +1,7 @@
 // Exit statuses, with the words that go to standard error.
 ghost use mathlib.Core.Path.{_≡_};
+ghost use mathlib.Core.Bool.{cond};
+ghost use lib.Dec.{eqb};
 ghost use Rattle.process.specs.Exit.{answered, failed, misused, AnsweredOrFailed};
 use crate::streams;
 use libc::STDERR_FILENO;
@@ -16,6 +18,21 @@ pub fn fail(what: &[u8]) -> u32
     ensures { λ r. ⌜ r ≡ failed ⌝ }
 {
     os::fail(what);
+    FAILED
+}
+
+// The status of a run that stopped with so many bytes left, from the given place of the input on; `what` says where they
+// are told.
+pub fn stopped(what: &[u8], left: usize, place: u64) -> u32
+    ensures { λ r. ⌜ (r ≡ cond (eqb left 0) answered failed) × AnsweredOrFailed r ⌝ }
+{
+    if left == 0 {
+        return ANSWERED;
+    }
+    io::write_all(STDERR_FILENO, what);
+    io::write_all(STDERR_FILENO, b": no record at byte ");
+    io::print_decimal(STDERR_FILENO, place);
+    io::write_all(STDERR_FILENO, b"\n");
     FAILED
 }
 

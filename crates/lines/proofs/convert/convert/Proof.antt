@@ -12,8 +12,8 @@ Inv-loop input out₀ read₀ written₀ n₀ out read written n = Converting in
 abbrev μ-loop : tie.MeasureT-loop
 μ-loop input out₀ read₀ written₀ n₀ out read written n = length input - read
 
-next-requires : tie.Need-next-requires Inv-loop μ-loop
-next-requires c κs = omega arith
+next-with-room-requires : tie.Need-next-with-room-requires Inv-loop μ-loop
+next-with-room-requires c κs = omega arith
 
 loop-holds : tie.Need-loop-holds Inv-loop μ-loop
 loop-holds c = search converting-starts
@@ -33,11 +33,11 @@ part-put-line-end c = search record-within
 put-line-requires : tie.Need-put-line-requires Inv-loop μ-loop
 put-line-requires c κs = search line-has-room
 
-sub-next : tie.Need-sub-next Inv-loop μ-loop
-sub-next c = search needs
+sub-next-with-room : tie.Need-sub-next-with-room Inv-loop μ-loop
+sub-next-with-room c = search needs
 
-next-requires-2 : tie.Need-next-requires-2 Inv-loop μ-loop
-next-requires-2 c κs = search record-within
+next-with-room-requires-2 : tie.Need-next-with-room-requires-2 Inv-loop μ-loop
+next-with-room-requires-2 c κs = search needs
 
 loop-less : tie.Need-loop-less Inv-loop μ-loop
 loop-less c = search less-left
@@ -57,15 +57,15 @@ convert-spec =
     (tie.spec
     Inv-loop
     μ-loop
-    next-requires
+    next-with-room-requires
     loop-holds
     add-end
     sub-put-line
     part-put-line-start
     part-put-line-end
     put-line-requires
-    sub-next
-    next-requires-2
+    sub-next-with-room
+    next-with-room-requires-2
     loop-less
     loop-again
     same-length
