@@ -50,7 +50,7 @@ no-other-refusal s room number p = first-unique (conversionRows s room) number (
 
 -- The bytes of a converted record.
 module _ (s : List ℕ) where
-  same-byte : (i : ℕ) → (i ≡ 2 → ⊥) → (i ≡ 9 → ⊥) → byte (converted s) i ≡ byte s i
+  pub same-byte : (i : ℕ) → (i ≡ 2 → ⊥) → (i ≡ 9 → ⊥) → byte (converted s) i ≡ byte s i
   same-byte i not-two not-nine =
       getD-set-other (set s 2 5) 9 i (nameField s + 1) 0 not-nine ∙ getD-set-other s 2 i 5 0 not-two
 
