@@ -3,6 +3,7 @@
 ghost use mathlib.Core.Path.{_≡_};
 ghost use mathlib.Core.Bool.{true, false, cond};
 ghost use Prim.Native.Nat.{_≤_, _<_};
+ghost use lib.Dec.{eqb};
 ghost use lib.ListN.{length, take};
 ghost use Rattle.process.specs.Exit.{failed, AnsweredOrFailed, Ended};
 ghost use Rattle.renew_run.specs.Stepped.{Stepped, ReadAndRenewed};
@@ -55,6 +56,7 @@ fn failed_step() -> Step
     }
 }
 
+// Tells the records that were refused, where one was.
 fn tell_if(refused: bool, renewed: &[u8], offset: u64) {
     if refused {
         tell_refused(renewed, offset);
@@ -120,11 +122,11 @@ fn copy(buffer: &mut [u8]) -> u32
     exit::FAILED
 }
 
-// The run stopped with so many bytes left, which were written as they are. Unless the input has ended, what follows is
-// written so too.
+// The status of a run that stopped with so many bytes left, which were written as they are. Unless the input has ended,
+// what follows is written so too.
 fn stop(buffer: &mut [u8], left: usize, ended: bool, offset: u64, status: u32) -> u32
     requires { ⌜ AnsweredOrFailed status ⌝ }
-    ensures { λ r. ⌜ AnsweredOrFailed r ⌝ }
+    ensures { λ r. ⌜ (r ≡ cond (eqb left 0) status failed) × AnsweredOrFailed r ⌝ }
 {
     if left == 0 {
         return status;
