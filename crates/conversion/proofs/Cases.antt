@@ -1,7 +1,7 @@
 -- The cases of a conversion's refusal, in their order.
 use Prim.Native.Nat.{ℕ, _≤_, _<_}
 use mathlib.Core.Path.{_≡_, refl, ap, sym, _∙_}
-use mathlib.Core.Bool.{false, true≢false}
+use mathlib.Core.Bool.{false, true≢false, not}
 use mathlib.Core.List.{List}
 use native.Mathlib.Omega.{arith}
 use lib.Dec.{ltb, eqb}
@@ -116,3 +116,24 @@ module _ (s : List ℕ) where
       (λ near.
       let z = sym (none s (omega arith) two field long near) in
       absurd (true≢false (sym (eq-eqb (conversionRefusal s) 0 z) ∙ other)))
+
+-- Whether it is of another kind.
+module _ (s : List ℕ) where
+  kind-two : kindOf s ≡ 2 → conversionRefusal s ≡ KIND → ⊥
+  kind-two two e =
+      by-refusal s
+      (λ h short. omega arith)
+      (λ h other kind. other two)
+      (λ h two wrong length. omega arith)
+      (λ h two right far day. omega arith)
+      (λ old right none. omega arith)
+
+  pub short-not-another : length s < 4 → false ≡ eqb (conversionRefusal s) KIND
+  short-not-another h = sym (ne-eqb (conversionRefusal s) KIND (λ e. omega (arith, too-short s h)))
+
+  pub another-by-kind : 4 ≤ length s → not (eqb (kindOf s) 2) ≡ eqb (conversionRefusal s) KIND
+  another-by-kind long =
+      by-equal (kindOf s) 2
+      (λ two. ap not (eq-eqb (kindOf s) 2 two) ∙ sym (ne-eqb (conversionRefusal s) KIND (kind-two two)))
+      (λ other.
+      ap not (ne-eqb (kindOf s) 2 other) ∙ sym (eq-eqb (conversionRefusal s) KIND (sym (another-kind s long other))))

@@ -3,6 +3,7 @@ ghost use mathlib.Core.Path.{_≡_};
 ghost use mathlib.Core.Bool.{false};
 ghost use lib.Dec.{eqb};
 ghost use lib.ListN.{length};
+ghost use Rattle.reckoning.specs.RefusalNumbers.{KIND};
 ghost use Rattle.conversion.specs.Conversion.{conversionRefusal, converted, conversionAnswer, convertedInto, renewed, leftWith};
 use citation::output::put;
 use citation::store::REFUSAL_UNIT;
@@ -67,19 +68,29 @@ fn raised(s: &[u8]) -> [u8; 10]
     [10, 0, 5, 0, s[4], s[5], s[6], s[7], s[8], s[9] + 1]
 }
 
+// A record of another kind, which is not to be converted.
+fn is_another(s: &[u8]) -> bool
+    ensures { λ r. ⌜ r ≡ eqb (conversionRefusal (now (s .entry))) KIND ⌝ }
+{
+    if s.len() < 4 {
+        return false;
+    }
+    le16(s[2], s[3]) != 2
+}
+
 // A record in its place: converted, or left where the conversion refuses it. The answer is the refusal of a record of kind
 // 2 that was left, and otherwise 0.
 pub fn renew(cited: &mut [u8]) -> u8
     ensures { λ r. ⌜ r ≡ leftWith (now (cited .entry)) ⌝ }
     ensures { λ _. ⌜ now (cited .exit) ≡ renewed (now (cited .entry)) ⌝ }
 {
+    if is_another(cited) {
+        return 0;
+    }
     let refusal = refusal(cited);
     if refusal == 0 {
         let record = raised(cited);
         put(cited, record);
-        return 0;
-    }
-    if refusal == KIND {
         return 0;
     }
     refusal
