@@ -70,7 +70,11 @@ fn read_and_answer(input: &mut [u8], kept: usize, out: &mut [u8]) -> Step
 fn stopped(left: usize, offset: u64) -> u32
     ensures { λ r. ⌜ (r ≡ cond (eqb left 0) answered failed) × AnsweredOrFailed r ⌝ }
 {
-    exit::stopped(b"chiselbrow: standard input", left, offset)
+    exit::stopped(
+        b"chiselbrow: standard input: no record at byte ",
+        left,
+        offset,
+    )
 }
 
 // Step after step. A proved loop has to end, so it counts its turns.

@@ -21,19 +21,36 @@ pub fn fail(what: &[u8]) -> u32
     FAILED
 }
 
-// The status of a run that stopped with so many bytes left, from the given place of the input on; `what` says where they
-// are told.
-pub fn stopped(what: &[u8], left: usize, place: u64) -> u32
+// The first bytes of a line to standard error, so many of them.
+fn write_line(line: &[u8], count: usize) {
+    if count <= line.len() {
+        streams::write_to(STDERR_FILENO, &line[..count]);
+    }
+}
+
+// Says what is wrong at a place of the input: words, the place, and more words. It is one line and written by one call, so
+// that it stays whole where other programs write to the same file.
+pub fn fail_at(words: &[u8], place: u64, more: &[u8]) -> u32
+    ensures { λ r. ⌜ r ≡ failed ⌝ }
+{
+    let mut digits = [0u8; 20];
+    let n = io::decimal(place, &mut digits);
+    let mut line = [0u8; 256];
+    let at = text::word(&mut line, 0, words);
+    let at = text::word(&mut line, at, &digits[..n]);
+    let at = text::word(&mut line, at, more);
+    write_line(&line, at);
+    FAILED
+}
+
+// The status of a run that stopped with so many bytes left, from the given place of the input on; `words` go before that.
+pub fn stopped(words: &[u8], left: usize, place: u64) -> u32
     ensures { λ r. ⌜ (r ≡ cond (eqb left 0) answered failed) × AnsweredOrFailed r ⌝ }
 {
     if left == 0 {
         return ANSWERED;
     }
-    io::write_all(STDERR_FILENO, what);
-    io::write_all(STDERR_FILENO, b": no record at byte ");
-    io::print_decimal(STDERR_FILENO, place);
-    io::write_all(STDERR_FILENO, b"\n");
-    FAILED
+    fail_at(words, place, b"\n")
 }
 
 // Says how the program is used.

@@ -1,4 +1,4 @@
-// Standard input and output, a failure told apart from the end. A call that a signal interrupts is made again. What a
+// Standard input and output and standard error, a failure told apart from the end. A call that a signal interrupts is made again. What a
 // call reads or writes is the system's, and no contract can say it.
 ghost use mathlib.Core.Path.{_≡_};
 ghost use mathlib.Core.Bool.{true};
@@ -49,12 +49,12 @@ pub fn read(buffer: &mut [u8]) -> Got
 }
 
 // Writes some of the text, and gives how many bytes; 0 where that failed.
-fn write_some(text: &[u8]) -> usize
+fn write_some(fd: i32, text: &[u8]) -> usize
     ensures { λ r. ⌜ r ≤ length (now (text .entry)) ⌝ }
 {
     let mut tries = u64::MAX;
     while 0 < tries {
-        let answer = libc::write(STDOUT_FILENO, text);
+        let answer = libc::write(fd, text);
         if !is_interrupted(answer) {
             return io::count(answer, text);
         }
@@ -65,16 +65,23 @@ fn write_some(text: &[u8]) -> usize
 
 // Writes all of the text, and says whether it could; no text can always be written. After a failure, which errno tells,
 // some of it may have been written.
-pub fn write(text: &[u8]) -> bool
+pub fn write_to(fd: i32, text: &[u8]) -> bool
     ensures { λ r. ⌜ (length (now (text .entry)) ≡ 0 → r ≡ true) ⌝ }
 {
     let mut done = 0;
     while done < text.len() {
-        let n = write_some(&text[done..]);
+        let n = write_some(fd, &text[done..]);
         if n == 0 {
             return false;
         }
         done += n;
     }
     true
+}
+
+// The same to standard output.
+pub fn write(text: &[u8]) -> bool
+    ensures { λ r. ⌜ (length (now (text .entry)) ≡ 0 → r ≡ true) ⌝ }
+{
+    write_to(STDOUT_FILENO, text)
 }

@@ -131,7 +131,11 @@ fn stop(buffer: &mut [u8], left: usize, ended: bool, offset: u64, status: u32) -
     if left == 0 {
         return status;
     }
-    exit::stopped(b"chiselbrow-renew: standard input", left, offset);
+    exit::stopped(
+        b"chiselbrow-renew: standard input: no record at byte ",
+        left,
+        offset,
+    );
     if ended {
         return exit::FAILED;
     }

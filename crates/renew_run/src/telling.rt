@@ -1,6 +1,6 @@
 // Records that were refused, told on standard error.
 use framing::next;
-use libc::STDERR_FILENO;
+use process::exit;
 use reckoning::refusal_numbers::KIND;
 
 // Tells a record of kind 2 by its refusal and its place in the input. One of another kind was not refused: it was not to be
@@ -12,14 +12,14 @@ fn tell(refusal: u8, place: u64) {
     if refusal == KIND {
         return;
     }
-    io::write_all(
-        STDERR_FILENO,
+    let mut told = [0u8; 32];
+    let at = text::word(&mut told, 0, b": ");
+    let end = text::refused(&mut told, at, refusal);
+    exit::fail_at(
         b"chiselbrow-renew: standard input: record at byte ",
+        place,
+        &told[..end],
     );
-    io::print_decimal(STDERR_FILENO, place);
-    io::write_all(STDERR_FILENO, b": refused ");
-    io::print_decimal(STDERR_FILENO, refusal as u64);
-    io::write_all(STDERR_FILENO, b"\n");
 }
 
 // Tells the records that were refused among renewed bytes, of which the first has the given place in the input: they are

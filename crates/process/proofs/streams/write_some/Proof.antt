@@ -3,10 +3,10 @@ use Rattle.process.proofs.streams.write_some.Statement.{statement}
 use Rattle.process.proofs.streams.write_some.Tie as tie
 
 abbrev Inv-loop : tie.InvT-loop
-Inv-loop text tries₀ tries = Unit {0}
+Inv-loop fd text tries₀ tries = Unit {0}
 
 abbrev μ-loop : tie.MeasureT-loop
-μ-loop text tries₀ tries = tries
+μ-loop fd text tries₀ tries = tries
 
 loop-holds : tie.Need-loop-holds Inv-loop μ-loop
 loop-holds c = search needs

@@ -2,14 +2,14 @@ use Prim.Native.Nat.{_-_, _≤_}
 use native.Mathlib.Omega.{arith}
 use lib.ListN.{length, length-drop}
 use borrow.Author.Needs.{needs}
-use Rattle.process.proofs.streams.write.Statement.{statement}
-use Rattle.process.proofs.streams.write.Tie as tie
+use Rattle.process.proofs.streams.write_to.Statement.{statement}
+use Rattle.process.proofs.streams.write_to.Tie as tie
 
 abbrev Inv-loop : tie.InvT-loop
-Inv-loop text done₀ done = done ≤ length text
+Inv-loop fd text done₀ done = done ≤ length text
 
 abbrev μ-loop : tie.MeasureT-loop
-μ-loop text done₀ done = length text - done
+μ-loop fd text done₀ done = length text - done
 
 loop-holds : tie.Need-loop-holds Inv-loop μ-loop
 loop-holds c = search needs
@@ -41,8 +41,8 @@ loop-again c = search needs
 returns-2 : tie.Need-returns-2 Inv-loop μ-loop
 returns-2 c = search needs
 
-pub write-spec : {M : Type 1} → statement M
-write-spec =
+pub write-to-spec : {M : Type 1} → statement M
+write-to-spec =
     tie.close
     (tie.spec
     Inv-loop
