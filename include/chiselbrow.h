@@ -179,10 +179,13 @@
  *
  * A converted record stores as version 1.2 stored the old one: the same day and
  * the same ten bytes, or the same refusal. Records of kinds 1, 3 and 4 have not
- * changed, stored records among them. Names that a host keeps elsewhere or
- * works out by itself it has to raise by one. No compiler sees this: a host
- * that still counts from 0, and is only built anew, cites the day before by
- * chiselbrow_cite_name, or none.
+ * changed, stored records among them.
+ *
+ * A host of version 1.x has to be gone over for two things that no compiler
+ * sees. Names that it keeps elsewhere or works out by itself are one higher now:
+ * if it still counts from 0, it cites the day before by chiselbrow_cite_name, or
+ * none. And CHISELBROW_KIND_NAME is 5: old records are of
+ * CHISELBROW_KIND_RETIRED.
  */
 
 #ifndef CHISELBROW_H

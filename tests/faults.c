@@ -1,7 +1,9 @@
-/* Preloaded, meddles with a program's reads of standard input and its writes to standard output, as the system may.
+/* Preloaded, meddles with a program's reads of standard input and its writes to standard output and standard error, as
+ * the system may.
  *
  *     READ_MOST=N    a read gives at most N bytes
- *     WRITE_MOST=N   a write takes at most N bytes
+ *     WRITE_MOST=N   a write takes at most N bytes, and so does
+ *     NOTE_MOST=N    a write to standard error, called note here
  *     INTERRUPTS=N   N calls are interrupted before each that is not
  *     FAULT=CALL     the fault is of this call, read or write,
  *     FAULT_AT=N     of the Nth one, from 1,
@@ -32,6 +34,7 @@ struct calls {
 
 static struct calls reads = {"read", "READ_MOST", 0, 0};
 static struct calls writes = {"write", "WRITE_MOST", 0, 0};
+static struct calls notes = {"note", "NOTE_MOST", 0, 0};
 
 /* A word of the environment, or an empty one. */
 static const char *word(const char *variable)
@@ -103,5 +106,7 @@ ssize_t write(int descriptor, const void *bytes, size_t asked)
 {
     if (descriptor == STDOUT_FILENO)
         return meddle(&writes, SYS_write, descriptor, (uintptr_t)bytes, asked);
+    if (descriptor == STDERR_FILENO)
+        return meddle(&notes, SYS_write, descriptor, (uintptr_t)bytes, asked);
     return syscall(SYS_write, descriptor, bytes, asked);
 }

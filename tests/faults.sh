@@ -18,11 +18,12 @@ meddled() {
     local call moved
     LD_PRELOAD=$PWD/build/faults.so run "${command[@]}" < "$input"
     runs=$((runs + 1))
-    reads=() writes=()
+    reads=() writes=() notes=()
     while read -r call moved; do
         case $call in
             read) reads+=("$moved") ;;
             write) writes+=("$moved") ;;
+            note) notes+=("$moved") ;;
         esac
     done < "$scratch/calls"
 }
@@ -33,6 +34,12 @@ plain() {
     told "${command[*]}" "$due_status" "$scratch/right" "$due_line"
     [[ ${#reads[@]} -ge $1 && ${#writes[@]} -ge $2 ]] || fail "${command[*]}: too few calls were seen"
     plain_reads=("${reads[@]}") plain_writes=("${writes[@]}")
+}
+
+# What is told of the input comes line by line, each by one write.
+lines_whole() {
+    plain "$@"
+    [ "${#notes[@]}" = "$(grep -c '' "$scratch/error")" ] || fail "${command[*]}: ${#notes[@]} writes of $due_line"
 }
 
 # A failure is told after what was due before it. That is nothing, but chiselbrow-renew tells of records as it goes on.
@@ -141,9 +148,9 @@ with_records() {
     # Few records: none left over, one byte, and bytes that cannot begin a record.
     for rest in '' '\x09' '\x03\0\x04\0\x01\x68\x5C\x20\0'; do
         after_records "$rest"
-        READ_MOST=1 WRITE_MOST=1 INTERRUPTS=3 plain $((${ends[-1]} + 1)) "$(stat -c %s "$scratch/right")"
+        READ_MOST=1 WRITE_MOST=1 NOTE_MOST=1 INTERRUPTS=3 plain $((${ends[-1]} + 1)) "$(stat -c %s "$scratch/right")"
         export READ_MOST=10
-        plain 10 5
+        lines_whole 10 5
         every_fault read "$EIO"
         every_fault write "$ENOSPC"
         unset READ_MOST
