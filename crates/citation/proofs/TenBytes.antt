@@ -8,7 +8,7 @@ use lib.ListN.{length, getD, drop, drop-of-length-le}
 use lib.Seq.{drop-cons, sets, sets-eq}
 use lib.Dec.{leb}
 use borrow.Author.Tests.{le-leb, lt-leb, leb-true, leb-false}
-use Rattle.citation.specs.Output.{putInto}
+use Rattle.citation.specs.Output.{recordInto}
 
 -- The elements of a list from place i on, n of them.
 unfoldable pub elements : List ℕ → ℕ → ℕ → List ℕ
@@ -30,23 +30,23 @@ front-set l r e h = sets-eq (elements r 0 10) l 0 h ∙ ap (λ t. t ++ drop 10 l
 
 -- Where there is room for them, and where there is not.
 module _ (l r : List ℕ) where
-  pub put-with-room : length r ≡ 10 → 10 ≤ length l → (true ≡ leb 10 (length l)) × (sets l 0 (elements r 0 10) ≡ putInto r l)
-  unfolding putInto
+  pub put-with-room : length r ≡ 10 → 10 ≤ length l → (true ≡ leb 10 (length l)) × (sets l 0 (elements r 0 10) ≡ recordInto r l)
+  unfolding recordInto
   put-with-room e h =
       let room = le-leb 10 (length l) h in
       (sym room, front-set l r e h ∙ ap (λ b. cond b (r ++ drop 10 l) l) (sym room))
 
-  pub put-without-room : length l < 10 → (false ≡ leb 10 (length l)) × (l ≡ putInto r l)
-  unfolding putInto
+  pub put-without-room : length l < 10 → (false ≡ leb 10 (length l)) × (l ≡ recordInto r l)
+  unfolding recordInto
   put-without-room h =
       let none = lt-leb 10 (length l) h in
       (sym none, ap (λ b. cond b (r ++ drop 10 l) l) (sym none))
 
   -- what was written, by the answer
-  pub put-true : leb 10 (length l) ≡ true → (10 ≤ length l) × (putInto r l ≡ r ++ drop 10 l)
-  unfolding putInto
+  pub put-true : leb 10 (length l) ≡ true → (10 ≤ length l) × (recordInto r l ≡ r ++ drop 10 l)
+  unfolding recordInto
   put-true e = (leb-true 10 (length l) e, ap (λ b. cond b (r ++ drop 10 l) l) e)
 
-  pub put-false : leb 10 (length l) ≡ false → (length l < 10) × (putInto r l ≡ l)
-  unfolding putInto
+  pub put-false : leb 10 (length l) ≡ false → (length l < 10) × (recordInto r l ≡ l)
+  unfolding recordInto
   put-false e = (leb-false 10 (length l) e, ap (λ b. cond b (r ++ drop 10 l) l) e)

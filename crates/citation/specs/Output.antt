@@ -6,5 +6,5 @@ use lib.Dec.{leb}
 use lib.ListN.{length, drop}
 
 -- It stands in the first ten bytes, and the rest is left; an output with fewer is as it was.
-unfoldable pub putInto : List ℕ → List ℕ → List ℕ
-putInto bytes before = cond (leb 10 (length before)) (bytes ++ drop 10 before) before
+unfoldable pub recordInto : List ℕ → List ℕ → List ℕ
+recordInto bytes before = cond (leb 10 (length before)) (bytes ++ drop 10 before) before

@@ -2,12 +2,12 @@
 ghost use mathlib.Core.Path.{_≡_};
 ghost use lib.Dec.{leb};
 ghost use lib.ListN.{length};
-ghost use Rattle.citation.specs.Output.{putInto};
+ghost use Rattle.citation.specs.Output.{recordInto};
 
 // Writes a record, and says whether there was room for it. In this order no jump is taken where there is.
 pub fn put(output: &mut [u8], bytes: [u8; 10]) -> bool
     ensures { λ r. ⌜ r ≡ leb 10 (length (now (output .entry))) ⌝ }
-    ensures { λ _. ⌜ now (output .exit) ≡ putInto bytes (now (output .entry)) ⌝ }
+    ensures { λ _. ⌜ now (output .exit) ≡ recordInto bytes (now (output .entry)) ⌝ }
 {
     if 10 <= output.len() {
         output[0] = bytes[0];

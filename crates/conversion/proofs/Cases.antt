@@ -1,6 +1,6 @@
 -- The cases of a conversion's refusal, in their order.
 use Prim.Native.Nat.{ℕ, _≤_, _<_}
-use mathlib.Core.Path.{_≡_, refl, ap, sym, _∙_}
+use mathlib.Core.Path.{_≡_, ap, sym, _∙_}
 use mathlib.Core.Bool.{false, true≢false, not}
 use mathlib.Core.List.{List}
 use native.Mathlib.Omega.{arith}
@@ -17,7 +17,7 @@ use Rattle.citation.proofs.WholeRecord.{by-length}
 use Rattle.conversion.specs.Conversion.{conversionRefusal}
 
 -- A record of kind 2 that is converted.
-pub record Old (s : List ℕ) : Type 0 where
+pub record Convertible (s : List ℕ) : Type 0 where
   pub field : lengthField s ≡ 10
   pub long : length s ≡ 10
   pub two : kindOf s ≡ 2
@@ -67,7 +67,7 @@ pub by-refusal : {P : Type 0} (s : List ℕ) → (length s < 4 → SHORT ≡ con
     → (4 ≤ length s → (kindOf s ≡ 2 → ⊥) → KIND ≡ conversionRefusal s → P)
     → (4 ≤ length s → kindOf s ≡ 2 → WrongLength s → LENGTH ≡ conversionRefusal s → P)
     → (4 ≤ length s → kindOf s ≡ 2 → (WrongLength s → ⊥) → 59 < nameField s → DAY ≡ conversionRefusal s → P)
-    → (Old s → (WrongLength s → ⊥) → 0 ≡ conversionRefusal s → P)
+    → (Convertible s → (WrongLength s → ⊥) → 0 ≡ conversionRefusal s → P)
     → P
 by-refusal s a b c d e =
     by-order (length s) 4
@@ -87,7 +87,7 @@ by-refusal s a b c d e =
     (λ other. b h other (another-kind s h other)))
 
 -- A record that is accepted.
-pub accepted : (s : List ℕ) → conversionRefusal s ≡ 0 → Old s
+pub accepted : (s : List ℕ) → conversionRefusal s ≡ 0 → Convertible s
 accepted s z =
     by-refusal s
     (λ h e. absurd (omega arith))
@@ -98,7 +98,7 @@ accepted s z =
 
 -- Whether it is.
 module _ (s : List ℕ) where
-  pub is-not : (Old s → ⊥) → false ≡ eqb (conversionRefusal s) 0
+  pub is-not : (Convertible s → ⊥) → false ≡ eqb (conversionRefusal s) 0
   is-not never = sym (ne-eqb (conversionRefusal s) 0 (λ z. never (accepted s z)))
 
   pub is-by-name : lengthField s ≡ 10 → length s ≡ 10 → kindOf s ≡ 2 → ltb (nameField s) 60 ≡ eqb (conversionRefusal s) 0

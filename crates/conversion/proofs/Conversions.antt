@@ -1,20 +1,21 @@
 -- The laws of the conversion.
-use Prim.Native.Nat.{ℕ, _+_}
-use mathlib.Core.Path.{_≡_, ap, sym, _∙_}
+use Prim.Native.Nat.{ℕ, _+_, _≤_}
+use mathlib.Core.Path.{_≡_, refl, ap, sym, _∙_}
 use mathlib.Core.Logic.{inl, inr}
-use mathlib.Core.List.{List, [], _∷_}
+use mathlib.Core.List.{List, [], _∷_, _++_}
 use native.Mathlib.Omega.{arith}
-use lib.ListN.{length, set, length-set}
-use lib.Seq.{getD-set-same, getD-set-other}
+use lib.ListN.{length, set, take, drop, length-set}
+use lib.Seq.{getD-set-same, getD-set-other, take-at, drop-at}
 use Rattle.calendar.proofs.Rising.{by-order}
 use Rattle.reckoning.specs.RefusalNumbers.{KIND}
 use Rattle.reckoning.specs.WordedRefusals.{FirstOf}
 use Rattle.citation.specs.Record.{byte, kindOf, nameField}
+use Rattle.citation.proofs.JudgementCases.{by-equal}
 use Rattle.citation.proofs.RowLaws.{first-unique}
 use Rattle.citation.proofs.TenBytes.{elements, elements-all}
-use Rattle.conversion.specs.Conversion.{conversionRows, conversionRefusal, refusalInto, converted}
-use Rattle.conversion.proofs.Cases.{Old, by-refusal, accepted, another-kind}
-use Rattle.conversion.proofs.Ends.{refusal-kept, refusal-output, refusal-none, converted-length}
+use Rattle.conversion.specs.Conversion.{conversionRows, conversionRefusal, refusalInto, converted, convertedInto}
+use Rattle.conversion.proofs.Cases.{Convertible, by-refusal, accepted, another-kind}
+use Rattle.conversion.proofs.Ends.{refusal-kept, refusal-output, refusal-none, refused-by, written, converted-length}
 
 -- Whatever the bytes, the conversion gives the first refusal of its table that applies, and 0 where none does;
 pub refusal-is-the-first : (s : List ℕ) (room : ℕ) → FirstOf (conversionRows s room) (refusalInto s room)
@@ -48,16 +49,40 @@ refusal-is-the-first s room =
 pub no-other-refusal : (s : List ℕ) (room number : ℕ) → FirstOf (conversionRows s room) number → number ≡ refusalInto s room
 no-other-refusal s room number p = first-unique (conversionRows s room) number (refusalInto s room) p (refusal-is-the-first s room)
 
+-- Refused, it leaves the output as it was;
+pub refused-changes-nothing : (s before : List ℕ) → (refusalInto s (length before) ≡ 0 → ⊥) → before ≡ convertedInto s before
+refused-changes-nothing s before some = refused-by s before (refusalInto s (length before)) refl some .output
+
+-- else the converted record is in front, and the rest as it was.
+module _ (s before : List ℕ) (none : refusalInto s (length before) ≡ 0) where
+  accepted-with-room : (conversionRefusal s ≡ 0) × (10 ≤ length before)
+  accepted-with-room =
+      by-equal (conversionRefusal s) 0
+      (λ z. (z, by-order (length before) 10 (λ h. absurd (omega (arith, refusal-output s (length before) z h))) (λ h. h)))
+      (λ some. absurd (some (sym (refusal-kept s (length before) some) ∙ none)))
+
+  whole-output : converted s ++ drop 10 before ≡ convertedInto s before
+  whole-output = written s before (accepted-with-room .0) (accepted-with-room .1) refl
+
+  ten-long : length (converted s) ≡ 10
+  ten-long = converted-length s ∙ accepted s (accepted-with-room .0) .long
+
+  pub converted-in-front : take 10 (convertedInto s before) ≡ converted s
+  converted-in-front = ap (take 10) (sym whole-output) ∙ take-at (converted s) (drop 10 before) 10 ten-long
+
+  pub leaves-the-rest : drop 10 (convertedInto s before) ≡ drop 10 before
+  leaves-the-rest = ap (drop 10) (sym whole-output) ∙ drop-at (converted s) (drop 10 before) 10 ten-long
+
 -- The bytes of a converted record.
 module _ (s : List ℕ) where
   pub same-byte : (i : ℕ) → (i ≡ 2 → ⊥) → (i ≡ 9 → ⊥) → byte (converted s) i ≡ byte s i
   same-byte i not-two not-nine =
       getD-set-other (set s 2 5) 9 i (nameField s + 1) 0 not-nine ∙ getD-set-other s 2 i 5 0 not-two
 
-  new-name : Old s → nameField (converted s) ≡ nameField s + 1
+  new-name : Convertible s → nameField (converted s) ≡ nameField s + 1
   new-name old = getD-set-same (set s 2 5) 9 (nameField s + 1) 0 (omega (arith, length-set s 2 5, old .long))
 
-  new-kind : Old s → kindOf (converted s) ≡ 5
+  new-kind : Convertible s → kindOf (converted s) ≡ 5
   new-kind old =
       let low : byte (converted s) 2 ≡ 5 =
       getD-set-other (set s 2 5) 9 2 (nameField s + 1) 0 (λ e. omega arith) ∙ getD-set-same s 2 5 0 (omega (arith, old .long))

@@ -10,14 +10,14 @@ use borrow.Author.Tests.{eq-eqb, ne-eqb, lt-ltb, le-ltb, le-leb}
 use Rattle.calendar.proofs.Cases.{by-bool}
 use Rattle.reckoning.specs.RefusalNumbers.{KIND, OUTPUT}
 use Rattle.citation.specs.Record.{byte, nameField}
-use Rattle.citation.specs.Output.{putInto}
+use Rattle.citation.specs.Output.{recordInto}
 use Rattle.citation.proofs.TenBytes.{elements, elements-all}
 use Rattle.conversion.specs.Conversion.{conversionRefusal, refusalInto, converted, conversionAnswer, convertedInto, renewed, leftWith}
-use Rattle.conversion.proofs.Cases.{Old, accepted}
+use Rattle.conversion.proofs.Cases.{Convertible, accepted}
 
 -- A record in its place.
 module _ (s : List ℕ) where
-  pub raised-bytes : Old s
+  pub raised-bytes : Convertible s
       → 10 ∷ 0 ∷ 5 ∷ 0 ∷ byte s 4 ∷ byte s 5 ∷ byte s 6 ∷ byte s 7 ∷ byte s 8 ∷ (byte s 9 + 1) ∷ [] ≡ converted s
   unfolding elements
   raised-bytes old =
@@ -30,8 +30,8 @@ module _ (s : List ℕ) where
       ∙ ap converted (sym (elements-all s 10 (sym (old .long))))
 
   -- put into its own place
-  pub renewed-in-place : {bytes : List ℕ} → conversionRefusal s ≡ 0 → bytes ≡ converted s → putInto bytes s ≡ renewed s
-  unfolding putInto renewed
+  pub renewed-in-place : {bytes : List ℕ} → conversionRefusal s ≡ 0 → bytes ≡ converted s → recordInto bytes s ≡ renewed s
+  unfolding recordInto renewed
   renewed-in-place z is =
       let long = accepted s z .long in
       ap₂ (λ b r. cond b (r ++ drop 10 s) s) (le-leb 10 (length s) (omega arith)) is
@@ -82,7 +82,7 @@ pub record Refused (s before : List ℕ) (number : ℕ) : Type 0 where
   pub output : before ≡ convertedInto s before
 
 module _ (s before : List ℕ) where
-  refused-by : (number : ℕ) → refusalInto s (length before) ≡ number → (number ≡ 0 → ⊥) → Refused s before number
+  pub refused-by : (number : ℕ) → refusalInto s (length before) ≡ number → (number ≡ 0 → ⊥) → Refused s before number
   unfolding convertedInto
   refused-by number is some =
       record {

@@ -7,3 +7,5 @@ pub mod Ends
 pub mod Conversions
 -- A converted record stores as the old one did.
 pub mod StoresAsBefore
+-- Conversions, computed.
+pub mod Examples

@@ -1,15 +1,15 @@
 -- A converted record stores as the old one did.
-use Prim.Native.Nat.{ℕ, _+_, _*_, _^_, _≤_, _<_}
+use Prim.Native.Nat.{ℕ, _+_, _*_, _^_, _≤_}
 use mathlib.Core.Path.{_≡_, refl, subst, ap, ap₂, sym, _∙_}
 use mathlib.Core.Logic.{_↔_, inl, inr, ⊎-elim}
 use mathlib.Core.List.{List, [], _∷_, _++_}
 use native.Mathlib.Omega.{arith}
-use lib.ListN.{length, take, drop, take-append-drop}
+use lib.ListN.{length, drop, take-append-drop}
 use Rattle.calendar.proofs.Rising.{by-order}
-use Rattle.reckoning.specs.RefusalNumbers.{LEAP, OUTPUT}
+use Rattle.reckoning.specs.RefusalNumbers.{OUTPUT}
 use Rattle.reckoning.specs.WordedRefusals.{Row, _when_, FirstOf}
 use Rattle.citation.specs.Record.{kindOf, systemOf, kindLength, recordOf}
-use Rattle.citation.specs.DayCited.{constantsIn, elapsedIn, NamesDay, OnDate}
+use Rattle.citation.specs.DayCited.{elapsedIn, NamesDay, OnDate}
 use Rattle.citation.specs.CitationRefusals.{TooShort, WrongKind, RetiredKind, WrongLength, HasMonth, Placed, NoRoom, contentRows, citationRows, storingRows, Accepted, Tells}
 use Rattle.citation.specs.Store.{judgeOf, refusalOf, toldOf, answerOf, storedInto}
 use Rattle.citation.proofs.JudgementCases.{by-equal}
@@ -20,7 +20,7 @@ use Rattle.citation.proofs.Storing.{refusal-kept, refusal-output}
 use Rattle.citation.proofs.Demands as Demands
 use Rattle.conversion.specs.Conversion.{conversionRefusal, converted}
 use Rattle.conversion.specs.KindTwo.{NamedDay, formerRows, FormerlyStored}
-use Rattle.conversion.proofs.Cases.{Old, accepted}
+use Rattle.conversion.proofs.Cases.{Convertible, accepted}
 
 -- Whatever the output: what storing the old record gave is what storing the converted one gives, answer and bytes.
 abbrev pub StoresAsBefore : List ℕ → Type 0
@@ -37,7 +37,7 @@ module _ (b0 b1 b2 b3 b4 b5 b6 b7 b8 b9 : ℕ) where
   abbrev t : List ℕ
   t = converted s
 
-  module _ (old : Old s) where
+  module _ (old : Convertible s) where
     five : HasMonth t
     five = inr (omega (arith, old .two))
 
@@ -177,7 +177,7 @@ module _ (b0 b1 b2 b3 b4 b5 b6 b7 b8 b9 : ℕ) where
           let m = names answer n in
           (sym (Demands.answers-its-day t before (a .0) (a .1) answer m), is ∙ sym (whole (a .0) (a .1) answer m year month leap day d))
 
-  by-bytes : Old s → StoresAsBefore s
+  by-bytes : Convertible s → StoresAsBefore s
   by-bytes old before answer after = (
     only-so old before answer after,
     λ same. subst (λ x. FormerlyStored s before x after) (sym (same .0)) (subst (FormerlyStored s before (answerOf t (length before))) (sym (same .1)) (stored-so old before)),
@@ -189,4 +189,4 @@ unfolding elements
 stores-as-before s z =
     let old = accepted s z in
     let bytes = elements-all s 10 (sym (old .long)) in
-    subst StoresAsBefore (sym bytes) (by-bytes _ _ _ _ _ _ _ _ _ _ (subst Old bytes old))
+    subst StoresAsBefore (sym bytes) (by-bytes _ _ _ _ _ _ _ _ _ _ (subst Convertible bytes old))

@@ -49,6 +49,6 @@ convertedInto s before = cond (eqb (refusalInto s (length before)) 0) (converted
 unfoldable pub renewed : List ℕ → List ℕ
 renewed s = cond (eqb (conversionRefusal s) 0) (converted s) s
 
--- and the refusal of one of kind 2 that is left, 0 of any other.
+-- and the refusal of one that is left, 0 of one that is converted or of another kind.
 unfoldable pub leftWith : List ℕ → ℕ
 leftWith s = cond (eqb (conversionRefusal s) KIND) 0 (conversionRefusal s)

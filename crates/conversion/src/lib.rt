@@ -15,7 +15,7 @@ use reckoning::refusal_numbers::OUTPUT;
 use reckoning::refusal_numbers::SHORT;
 
 // A record that is converted.
-fn is_old(s: &[u8]) -> bool
+fn is_convertible(s: &[u8]) -> bool
     ensures { λ r. ⌜ r ≡ eqb (conversionRefusal (now (s .entry))) 0 ⌝ }
 {
     if s.len() != 10 {
@@ -51,10 +51,10 @@ fn refuse(s: &[u8]) -> u8
 }
 
 // The refusal of a record by its bytes, 0 where there is none. What it cites is left to the storing step.
-pub fn refusal(s: &[u8]) -> u8
+fn refusal(s: &[u8]) -> u8
     ensures { λ r. ⌜ r ≡ conversionRefusal (now (s .entry)) ⌝ }
 {
-    if is_old(s) {
+    if is_convertible(s) {
         return 0;
     }
     refuse(s)
@@ -78,8 +78,18 @@ fn is_another(s: &[u8]) -> bool
     le16(s[2], s[3]) != 2
 }
 
-// A record in its place: converted, or left where the conversion refuses it. The answer is the refusal of a record of kind
-// 2 that was left, and otherwise 0.
+// The refusal of a record that is left, 0 of one that is converted or of another kind.
+pub fn left_with(s: &[u8]) -> u8
+    ensures { λ r. ⌜ r ≡ leftWith (now (s .entry)) ⌝ }
+{
+    if is_another(s) {
+        return 0;
+    }
+    refusal(s)
+}
+
+// A record in its place: converted, or left as it is, with its refusal as the answer. Most records are of another kind,
+// which is tested first.
 pub fn renew(cited: &mut [u8]) -> u8
     ensures { λ r. ⌜ r ≡ leftWith (now (cited .entry)) ⌝ }
     ensures { λ _. ⌜ now (cited .exit) ≡ renewed (now (cited .entry)) ⌝ }

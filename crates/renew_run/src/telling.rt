@@ -1,15 +1,10 @@
 // Records that were refused, told on standard error.
 use framing::next;
 use process::exit;
-use reckoning::refusal_numbers::KIND;
 
-// Tells a record of kind 2 by its refusal and its place in the input. One of another kind was not refused: it was not to be
-// renewed.
+// Tells a record by its refusal and its place in the input, where it has a refusal.
 fn tell(refusal: u8, place: u64) {
     if refusal == 0 {
-        return;
-    }
-    if refusal == KIND {
         return;
     }
     let mut told = [0u8; 32];
@@ -30,7 +25,7 @@ pub(crate) fn tell_refused(renewed: &[u8], offset: u64) {
     while n != 0 {
         let end = at + n;
         let place = std::num::wrapping_add_u64(offset, at as u64);
-        tell(conversion::refusal(&renewed[at..end]), place);
+        tell(conversion::left_with(&renewed[at..end]), place);
         at = end;
         n = next(renewed, at);
     }

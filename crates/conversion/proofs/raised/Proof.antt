@@ -1,11 +1,10 @@
 use native.Mathlib.Omega.{arith}
-use Rattle.conversion.proofs.Cases.{Old, accepted}
+use Rattle.conversion.proofs.Cases.{Convertible, accepted}
 use Rattle.conversion.proofs.Ends.{raised-bytes}
-use borrow.Author.Needs.{needs}
 use Rattle.conversion.proofs.raised.Statement.{statement}
 use Rattle.conversion.proofs.raised.Tie as tie
 
-old : (c : tie.Start) → Old (c .args .s .now)
+old : (c : tie.Start) → Convertible (c .args .s .now)
 old c = accepted _ (c .pre)
 
 shared-slice-read-t3 : tie.Need-shared-slice-read-t3

@@ -13,9 +13,6 @@ short c = omega (arith, c .before .before .before .word .ensures .near, c .refus
 returns : tie.Need-returns
 returns c = search needs
 
-returns-2 : tie.Need-returns-2
-returns-2 c = search needs
-
 slice-aggregate-word : tie.Need-slice-aggregate-word
 slice-aggregate-word c = search needs
 
@@ -43,15 +40,14 @@ slice-aggregate-fail-at-2 c = let line = short (c .before .before .before) in sy
 fail-at-requires : tie.Need-fail-at-requires
 fail-at-requires c κs = search needs
 
-returns-3 : tie.Need-returns-3
-returns-3 c = search needs
+returns-2 : tie.Need-returns-2
+returns-2 c = search needs
 
 pub tell-spec : {M : Type 1} → statement M
 tell-spec =
     tie.close
     (tie.spec
     returns
-    returns-2
     slice-aggregate-word
     slice-aggregate-word-2
     word-requires
@@ -61,4 +57,4 @@ tell-spec =
     array-share-prefix-told
     slice-aggregate-fail-at-2
     fail-at-requires
-    returns-3)
+    returns-2)

@@ -26,17 +26,17 @@ add-end c = omega (arith, next-within _ _ (c .before .loop .inv) (c .loop-test .
 wrapping-add-u64-requires : tie.Need-wrapping-add-u64-requires Inv-loop μ-loop
 wrapping-add-u64-requires c κs = search needs
 
-sub-refusal : tie.Need-sub-refusal Inv-loop μ-loop
-sub-refusal c = search needs
+sub-left-with : tie.Need-sub-left-with Inv-loop μ-loop
+sub-left-with c = search needs
 
-part-refusal-start : tie.Need-part-refusal-start Inv-loop μ-loop
-part-refusal-start c = search needs
+part-left-with-start : tie.Need-part-left-with-start Inv-loop μ-loop
+part-left-with-start c = search needs
 
-part-refusal-end : tie.Need-part-refusal-end Inv-loop μ-loop
-part-refusal-end c = search next-within
+part-left-with-end : tie.Need-part-left-with-end Inv-loop μ-loop
+part-left-with-end c = search next-within
 
-refusal-requires : tie.Need-refusal-requires Inv-loop μ-loop
-refusal-requires c κs = search needs
+left-with-requires : tie.Need-left-with-requires Inv-loop μ-loop
+left-with-requires c κs = search needs
 
 tell-requires : tie.Need-tell-requires Inv-loop μ-loop
 tell-requires c κs = search needs
@@ -63,10 +63,10 @@ tell-refused-spec =
     loop-holds
     add-end
     wrapping-add-u64-requires
-    sub-refusal
-    part-refusal-start
-    part-refusal-end
-    refusal-requires
+    sub-left-with
+    part-left-with-start
+    part-left-with-end
+    left-with-requires
     tell-requires
     next-requires-2
     loop-less

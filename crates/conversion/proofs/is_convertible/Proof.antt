@@ -2,8 +2,8 @@ use mathlib.Core.Path.{sym, _∙_}
 use native.Mathlib.Omega.{arith}
 use Rattle.conversion.proofs.Cases.{is-not, is-by-name}
 use borrow.Author.Needs.{needs}
-use Rattle.conversion.proofs.is_old.Statement.{statement}
-use Rattle.conversion.proofs.is_old.Tie as tie
+use Rattle.conversion.proofs.is_convertible.Statement.{statement}
+use Rattle.conversion.proofs.is_convertible.Tie as tie
 
 returns : tie.Need-returns
 returns c = is-not _ (λ old. c .if1 .taken (old .long))
@@ -42,8 +42,8 @@ returns-4 c =
     is-by-name _ (sym (field .before .le16 .ensures .0) ∙ field .if2 .left) (omega arith)
     (sym (kind .before .le162 .ensures .0) ∙ kind .if3 .left)
 
-pub is-old-spec : {M : Type 1} → statement M
-is-old-spec =
+pub is-convertible-spec : {M : Type 1} → statement M
+is-convertible-spec =
     tie.close
     (tie.spec
     returns
