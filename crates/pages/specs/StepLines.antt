@@ -8,14 +8,14 @@ use Rattle.text.specs.Piece.{line, textsUpTo}
 use Rattle.pages.specs.declared.steps.Steps.{Steps}
 use Rattle.pages.specs.declared.steps.Steps.the-variants.{Qi, Pentads}
 
--- A word, the step's number from 0, its day with its name, parts, units.
-unfoldable pub momentLine : List ℕ → ℕ → Moment → List ℕ
-momentLine bytes i m = line bytes (i ∷ m .day .0 ∷ nameOf (m .day .0) ∷ m .parts ∷ m .units ∷ [])
+-- What is told of a step: its number from 0, its day with its name, parts, units.
+abbrev pub momentNumbers : ℕ → Moment → List ℕ
+momentNumbers i m = i ∷ m .day .0 ∷ nameOf (m .day .0) ∷ m .parts ∷ m .units ∷ []
 
 -- "qi" or "pentad", and step i of a year.
 unfoldable pub stepLine : Steps → ℕ → ℕ → ℕ → List ℕ
-stepLine Qi system year i = momentLine (113 ∷ 105 ∷ []) i (qiOf system year i)
-stepLine Pentads system year i = momentLine (112 ∷ 101 ∷ 110 ∷ 116 ∷ 97 ∷ 100 ∷ []) i (pentadOf system year i)
+stepLine Qi system year i = line (113 ∷ 105 ∷ []) (momentNumbers i (qiOf system year i))
+stepLine Pentads system year i = line (112 ∷ 101 ∷ 110 ∷ 116 ∷ 97 ∷ 100 ∷ []) (momentNumbers i (pentadOf system year i))
 
 -- So many steps of a year, from the first on.
 unfoldable pub stepLines : Steps → ℕ → ℕ → ℕ → List ℕ

@@ -1,8 +1,9 @@
 // The lines of a year's equal steps. A line takes 62 bytes at most, a number taking ten digits.
+ghost use mathlib.Core.Path.{_≡_};
 ghost use Prim.Native.Nat.{_+_, _*_, _≤_};
 ghost use lib.ListN.{length};
 ghost use Rattle.text.specs.Wrote.{Wrote};
-ghost use Rattle.pages.specs.StepLines.{momentLine, stepLine, stepLines};
+ghost use Rattle.pages.specs.StepLines.{momentNumbers, stepLine, stepLines};
 use crate::names::name;
 use reckoning::data::Moment;
 
@@ -12,16 +13,12 @@ pub(crate) enum Steps {
     Pentads,
 }
 
-// The moment of step i, after its word.
-fn moment_line(out: &mut [u8], at: usize, word: &[u8], i: u32, moment: Moment) -> usize
-    requires { ⌜ (at + 62 ≤ length (now out)) × (length (now word) ≤ 6) ⌝ }
-    ensures { λ r. ⌜
-        Wrote (now (out .entry)) at (momentLine (now (word .entry)) i moment) (now (out .exit)) r × (r ≤ at + 62)
-        ⌝ }
+// The numbers that a line tells of step i, by its moment.
+fn numbers(i: u32, moment: Moment) -> [u32; 5]
+    ensures { λ r. ⌜ r ≡ momentNumbers i moment ⌝ }
 {
     let day = moment.day;
-    let numbers = [i, day.0, name(day), moment.parts, moment.units];
-    text::line(out, at, word, &numbers)
+    [i, day.0, name(day), moment.parts, moment.units]
 }
 
 fn line(out: &mut [u8], at: usize, steps: Steps, system: u32, year: u32, i: u32) -> usize
@@ -29,8 +26,14 @@ fn line(out: &mut [u8], at: usize, steps: Steps, system: u32, year: u32, i: u32)
     ensures { λ r. ⌜ Wrote (now (out .entry)) at (stepLine steps system year i) (now (out .exit)) r × (r ≤ at + 62) ⌝ }
 {
     match steps {
-        Steps::Qi => moment_line(out, at, b"qi", i, reckoning::qi(system, year, i)),
-        Steps::Pentads => moment_line(out, at, b"pentad", i, reckoning::pentad(system, year, i)),
+        Steps::Qi => {
+            let numbers = numbers(i, reckoning::qi(system, year, i));
+            text::line(out, at, b"qi", &numbers)
+        }
+        Steps::Pentads => {
+            let numbers = numbers(i, reckoning::pentad(system, year, i));
+            text::line(out, at, b"pentad", &numbers)
+        }
     }
 }
 
