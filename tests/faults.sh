@@ -42,47 +42,60 @@ lines_whole() {
     [ "${#notes[@]}" = "$(grep -c '' "$scratch/error")" ] || fail "${command[*]}: ${#notes[@]} writes of $due_line"
 }
 
-# A failure is told after what was due before it. That is nothing, but chiselbrow-renew tells of records as it goes on.
+# What a run had read when a call failed: how many bytes, how many of them before the last read, and how many whole
+# records.
+had_read() {
+    local moved end
+    given=0 earlier=0 records=0
+    for moved in "${reads[@]}"; do
+        [ "$moved" -ge 0 ] || break
+        earlier=$given given=$((given + moved))
+    done
+    for end in "${ends[@]:1}"; do
+        [ "$end" -le "$given" ] || break
+        records=$((records + 1))
+    done
+}
+
+# How far chiselbrow-renew came, all being done that the first so many bytes ask for: over the whole records that it
+# read, as it tells of those before it writes; and over all bytes if a length field that no record has is among the
+# first ones, as it tells of that after it wrote. Two bytes after the records are always such a field here.
+came() {
+    if [ "$1" -lt $((ends[-1] + 2)) ]; then echo "${ends[records]}"; else echo "$given"; fi
+}
+
+# A failure is told after what was due before it. That is nothing, but chiselbrow-renew tells what is wrong in the input
+# as far as it came.
 failed() {
     local before=
-    [ "$program" != chiselbrow-renew ] || before=$(sed '$d' "$scratch/error")
-    [[ $due_line = "$before"* ]] || fail "$1: something else is told before the failure: $before"
+    [ "$program" != chiselbrow-renew ] || before=$(awk -F ' at byte ' -v to="$3" '$2 + 0 < to' <<< "$due_line")
     told "$1" 1 "$scratch/expected" "${before:+$before$'\n'}$program: $2"
 }
 
 # After a failed read: what is due for the records that were whole before it. Chiselbrow has a line for each of them,
-# and chiselbrow-renew their bytes; it may have copied others that were read, if they are no record or not all of one.
+# and chiselbrow-renew their bytes, or all that were read if they do not go on as records.
 read_failed() {
-    local bytes=0 records=0 moved end size
-    for moved in "${reads[@]}"; do
-        [ "$moved" != "-$EIO" ] || break
-        bytes=$((bytes + moved))
-    done
-    for end in "${ends[@]:1}"; do
-        [ "$end" -le "$bytes" ] || break
-        records=$((records + 1))
-    done
+    local given earlier records to
+    had_read
+    to=$(came "$given")
     case $program in
         chiselbrow) head -n "$records" "$scratch/right" > "$scratch/expected" ;;
-        chiselbrow-renew)
-            size=$(stat -c %s "$scratch/out")
-            [[ ${ends[records]} -le $size && $size -le $bytes ]] || fail "$1: $size bytes of $bytes"
-            head -c "$size" "$scratch/right" > "$scratch/expected"
-            ;;
+        chiselbrow-renew) head -c "$to" "$scratch/right" > "$scratch/expected" ;;
     esac
-    failed "$1" 'standard input: Input/output error'
+    failed "$1" 'standard input: Input/output error' "$to"
 }
 
-# After a failed write: what the writes before it took, the cut one among them.
+# After a failed write: what the writes before it took, the cut one among them. What the last read asks for is not done.
 write_failed() {
-    local bytes=0 i
+    local given earlier records bytes=0 i
+    had_read
     for ((i = 0; i < FAULT_AT - 1; i++)); do bytes=$((bytes + plain_writes[i])); done
     case ${FAULT_CUT:-} in
         one) bytes=$((bytes + 1)) ;;
         half) bytes=$((bytes + (plain_writes[i] + 1) / 2)) ;;
     esac
     head -c "$bytes" "$scratch/right" > "$scratch/expected"
-    failed "$1" 'standard output: No space left on device'
+    failed "$1" 'standard output: No space left on device' "$(came "$earlier")"
 }
 
 # The fault that the environment tells, at the first call, at the second and so on, until a run makes no such call. The

@@ -1,7 +1,7 @@
 #!/usr/bin/env bash
 # What chiselbrow-renew makes of old files and tells of them: records of every kind, what is no record, records at the
-# end of a buffer, random streams, and streams cut at every length. What is renewed then has the lines that the old file
-# had by the rule of its time. SEED=N repeats a run.
+# end of a buffer, random streams, and streams cut at every length. Records that are converted then have the lines that
+# they had by the rule of their time, and all others have those of today. SEED=N repeats a run.
 set -euo pipefail
 cd "$(dirname "$0")/.."
 name=renew
@@ -28,7 +28,8 @@ same() {
     renewed "$1" "$2" "$scratch/new" "$lines"
 }
 
-# The lines of what the program makes of an old file are those of the old file.
+# The lines of what the program makes of an old file: records that are converted have those that they had. All others
+# have those of today: one of kind 2 that is left is refused 11, and one that was of kind 5 before is judged as such.
 same_lines() {
     build/independent former < "$2" > "$scratch/expected"
     due "$2"
@@ -215,4 +216,4 @@ for i in 1 2 "$seed"; do
     cmp "$scratch/came-told" "$scratch/cut-due-told" || fail "something else is told of stream $i cut"
 done
 echo "renew: the same bytes for 11 streams, for 3 cut at every length to 300 and for 123 at the end of a buffer, and" \
-    "the lines that they had (seed $seed)"
+    "the lines that the converted records had, with those of today for all others (seed $seed)"

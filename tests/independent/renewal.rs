@@ -1,6 +1,6 @@
 //! The program that renews old files: every record of kind 2 turned into kind
-//! 5, all else as it was. And the lines of an old file, by which the renewed
-//! one can be judged.
+//! 5, all else as it was. And the lines that are due for the renewed file, from
+//! the old one.
 
 use crate::conversion::{convert, formerly_stored};
 use crate::lines::{first_record, line, lines_by, told_line};
@@ -46,8 +46,9 @@ impl Renewed {
 }
 
 /// The lines that the program of paper 01 has for an old stream once it is
-/// renewed. A record that is turned is told by what it stored as before, and
-/// one of kind 2 that cannot be turned is refused as retired.
+/// renewed. A record that is turned has the line that it had, by what it stored
+/// as before. All others have those of today: one of kind 2 that cannot be
+/// turned is refused as retired, and one of kind 5 is judged as kind 5.
 pub fn former_lines(tables: &Tables, old: &[u8], out: &mut impl Write) -> io::Result<()> {
     lines_by(old, |record| former_line(tables, record), out)
 }
