@@ -1,5 +1,5 @@
 -- Numbered refusals: paper 01's table with the rows of paper 02, Q-3 and Q-7, a definition a row, in its order.
-use Prim.Native.Nat.{ℕ, _≤_, _<_}
+use Prim.Native.Nat.{ℕ, _<_}
 use mathlib.Core.Path.{_≡_}
 use mathlib.Core.Logic.{_⊎_}
 use mathlib.Core.List.{List, [], _∷_, _++_}

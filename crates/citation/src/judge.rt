@@ -1,7 +1,7 @@
 // The judgement of a citation: its refusal, or the day that it names and its stored record.
 ghost use mathlib.Core.Path.{_≡_};
 ghost use mathlib.Core.Bool.{false};
-ghost use Prim.Native.Nat.{_≤_, _<_, _^_};
+ghost use Prim.Native.Nat.{_<_, _^_};
 ghost use lib.ListN.{length};
 ghost use Rattle.citation.specs.Store.{refuseTelling, refuse, accept, judgeRegisterDay, judgeOrdinal, judgeDay, daysToName, judgeName};
 ghost use Rattle.citation.specs.Store.{judgeKind, judgeOf};

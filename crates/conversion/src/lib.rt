@@ -4,7 +4,8 @@ ghost use mathlib.Core.Bool.{false};
 ghost use lib.Dec.{eqb};
 ghost use lib.ListN.{length};
 ghost use Rattle.reckoning.specs.RefusalNumbers.{KIND};
-ghost use Rattle.conversion.specs.Conversion.{conversionRefusal, converted, conversionAnswer, convertedInto, renewed, leftWith};
+ghost use Rattle.conversion.specs.Conversion.{conversionRefusal, converted, conversionAnswer};
+ghost use Rattle.conversion.specs.Conversion.{convertedInto, renewed, leftWith};
 use citation::output::put;
 use citation::store::REFUSAL_UNIT;
 use little_endian::le16;
@@ -106,8 +107,8 @@ pub fn renew(cited: &mut [u8]) -> u8
     refusal
 }
 
-// Converts one record. The output's first ten bytes become the record of kind 5, and the rest is left. The answer is 2^32
-// times the refusal number; refused, no byte changes.
+// Converts one record. The output's first ten bytes become the record of kind 5, and the rest is left. The answer is
+// 2^32 times the refusal number; refused, no byte changes.
 #[no_mangle]
 pub extern "C" fn chiselbrow_convert(input: &[u8], output: &mut [u8]) -> u64
     ensures { λ r. ⌜ r ≡ conversionAnswer (now (input .entry)) (length (now (output .entry))) ⌝ }

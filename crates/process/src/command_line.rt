@@ -17,8 +17,8 @@ fn wish() -> Wish {
     options::read(&text[..n])
 }
 
-// Replies to an option with the program's help, or its name and version, and to any other argument with its usage; `what`
-// names standard output where that fails.
+// Replies to an option with the program's help, or its name and version, and to any other argument with its usage;
+// `what` names standard output where that fails.
 pub fn reply(program: &[u8], version: &[u8], help: &[u8], usage: &[u8], what: &[u8]) -> Asked
     ensures { λ r. ⌜ Replied r ⌝ }
 {

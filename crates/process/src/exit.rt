@@ -6,9 +6,9 @@ ghost use Rattle.process.specs.Exit.{answered, failed, misused, Answered
 use crate::streams;
 use libc::STDERR_FILENO;
 
-// All that was read was answered.
+// All that was read was answered, or renewed.
 pub const ANSWERED: u32 = 0;
-// A read or a write failed, or the input stopped being records.
+// A read or a write failed, or not all of the input was what it should be.
 pub const FAILED: u32 = 1;
 // The arguments were wrong.
 pub const MISUSED: u32 = 2;
@@ -28,8 +28,8 @@ fn write_line(line: &[u8], count: usize) {
     }
 }
 
-// Says what is wrong at a place of the input: words, the place, and more words. It is one line and written by one call, so
-// that it stays whole where other programs write to the same file.
+// Says what is wrong at a place of the input: words, the place, and more words. It is one line and written by one call,
+// so that it stays whole where other programs write to the same file.
 pub fn fail_at(words: &[u8], place: u64, more: &[u8]) -> u32
     ensures { λ r. ⌜ r ≡ failed ⌝ }
 {
@@ -43,7 +43,8 @@ pub fn fail_at(words: &[u8], place: u64, more: &[u8]) -> u32
     FAILED
 }
 
-// The status of a run that stopped with so many bytes left, from the given place of the input on; `words` go before that.
+// The status of a run that stopped with so many bytes left, from the given place of the input on; `words` go before
+// that.
 pub fn stopped(words: &[u8], left: usize, place: u64) -> u32
     ensures { λ r. ⌜ (r ≡ cond (eqb left 0) answered failed) × AnsweredOrFailed r ⌝ }
 {

@@ -1,5 +1,5 @@
-// Standard input and output and standard error, a failure told apart from the end. A call that a signal interrupts is made again. What a
-// call reads or writes is the system's, and no contract can say it.
+// Standard input and output and standard error, a failure told apart from the end. A call that a signal interrupts is
+// made again. What a call reads or writes is the system's, and no contract can say it.
 ghost use mathlib.Core.Path.{_≡_};
 ghost use mathlib.Core.Bool.{true};
 ghost use Prim.Native.Nat.{_≤_};

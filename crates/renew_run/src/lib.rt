@@ -1,5 +1,5 @@
-// The run of the program chiselbrow-renew. What it does between two calls of the system is in `turn`; here bytes are moved
-// between that and the system.
+// The run of the program chiselbrow-renew. What it does between two calls of the system is in `turn`; here bytes are
+// moved between that and the system.
 ghost use mathlib.Core.Path.{_≡_};
 ghost use mathlib.Core.Bool.{true, false, cond};
 ghost use Prim.Native.Nat.{_≤_, _<_};
@@ -18,8 +18,8 @@ use turn::renew;
 mod telling;
 mod turn;
 
-// How a step ended: whether a call of the system failed, and if not, whether the run goes on, whether the input has ended,
-// how many bytes are left and how many the records had, and whether one of them was refused.
+// How a step ended: whether a call of the system failed, and if not, whether the run goes on, whether the input has
+// ended, how many bytes are left and how many the records had, and whether one of them was refused.
 struct Step {
     failed: bool,
     more: bool,

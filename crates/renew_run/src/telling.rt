@@ -17,8 +17,8 @@ fn tell(refusal: u8, place: u64) {
     );
 }
 
-// Tells the records that were refused among renewed bytes, of which the first has the given place in the input: they are
-// the ones that are still of kind 2.
+// Tells the records that were refused among renewed bytes, of which the first has the given place in the input: they
+// are the ones that are still of kind 2.
 pub(crate) fn tell_refused(renewed: &[u8], offset: u64) {
     let mut at = 0;
     let mut n = next(renewed, at);
