@@ -10,13 +10,13 @@ use Rattle.text.specs.Put.{Put}
 use Rattle.text.specs.Wrote.{Wrote}
 use Rattle.text.proofs.Putting.{put-nothing, put-wrote}
 use Rattle.text.proofs.Writing.{wrote-as, wrote-then}
-use Rattle.lines.specs.declared.convert.Progress.{Progress}
+use Rattle.lines.specs.declared.buffer.Progress.{Progress}
 use Rattle.framing.specs.Framing.{misframed, framing, restOf}
 use Rattle.framing.specs.Buffer.{atFront}
 use Rattle.framing.specs.Run.{stops, turnBy}
 use Rattle.framing.proofs.Rest.{rest-shorter, rest-is}
 use Rattle.framing.proofs.Stepping.{left-short}
-use Rattle.lines.specs.Program.{linesOf, endingOf, progressOf, portionOf, linesInto, Converted}
+use Rattle.lines.specs.Program.{linesOf, endingOf, progressOf, portionOf, linesInto, LinesPut}
 use Rattle.lines.proofs.AllRecords.{all-records, lines-short}
 use Rattle.chiselbrow_run.specs.Turn.{turnText, turnOf, Turned}
 
@@ -33,7 +33,7 @@ other-way true text = refl
 other-way false text = refl
 
 module _ (ended : Bool) (s before m : List ℕ) (p : Progress) (room : 16 * length s + 64 ≤ length before)
-    (converted : Converted s before m p) where
+    (lines-put : LinesPut s before m p) where
   abbrev lines : List ℕ
   lines = linesOf (framing s .records)
 
@@ -41,10 +41,10 @@ module _ (ended : Bool) (s before m : List ℕ) (p : Progress) (room : 16 * leng
   all-taken = all-records s (length before) (omega arith)
 
   read-is : p .read ≡ length s - length (restOf s)
-  read-is = ap (λ q. q .read) (converted .progress ∙ ap progressOf all-taken)
+  read-is = ap (λ q. q .read) (lines-put .progress ∙ ap progressOf all-taken)
 
   written-is : p .written ≡ length lines
-  written-is = ap (λ q. q .written) (converted .progress ∙ ap progressOf all-taken)
+  written-is = ap (λ q. q .written) (lines-put .progress ∙ ap progressOf all-taken)
 
   -- what is left is lent as a part of the buffer
   part-is : take (length s - p .read) (drop (p .read) s) ≡ restOf s
@@ -58,10 +58,10 @@ module _ (ended : Bool) (s before m : List ℕ) (p : Progress) (room : 16 * leng
       let short = lines-short s in
       let start : 0 + length lines ≡ length lines = omega arith in
       record {
-        is = converted .output ∙ ap (λ q. linesInto q before) all-taken ∙ ap (λ n. lines ++ drop n before) (sym start);
+        is = lines-put .output ∙ ap (λ q. linesInto q before) all-taken ∙ ap (λ n. lines ++ drop n before) (sym start);
         ends = written-is ∙ sym start;
         fits = omega (arith, written-is);
-        same-length = converted .same-length;
+        same-length = lines-put .same-length;
       }
 
   pub turned : {after kept : List ℕ} {written : ℕ} {more : Bool}
@@ -78,7 +78,7 @@ module _ (ended : Bool) (s before m : List ℕ) (p : Progress) (room : 16 * leng
       let ending-is : cond more [] (endingOf (take (length s - p .read) (drop (p .read) s))) ≡ cond (stops ended s) (endingOf (restOf s)) [] =
       ap₂ (λ b r. cond b [] (endingOf r)) more-is part-is ∙ other-way (stops ended s) (endingOf (restOf s))
       in
-      let last = wrote-as ending-is (put-wrote ended-by (omega (arith, written-is, converted .same-length))) in
+      let last = wrote-as ending-is (put-wrote ended-by (omega (arith, written-is, lines-put .same-length))) in
       let whole : Wrote before 0 (turnText ended s) after written = wrote-then first last in
       let left-is : length s - p .read ≡ length (restOf s) = omega (arith, read-is) in
       let start : 0 + length (turnText ended s) ≡ length (turnText ended s) = omega arith in

@@ -78,7 +78,7 @@ fn stopped(left: usize, offset: u64) -> u32
 }
 
 // Step after step. A proved loop has to end, so it counts its turns.
-fn convert_input(input: &mut [u8], out: &mut [u8]) -> u32
+fn answer_input(input: &mut [u8], out: &mut [u8]) -> u32
     requires { ⌜ Buffers (now input) (now out) ⌝ }
     ensures { λ r. ⌜ AnsweredOrFailed r ⌝ }
 {
@@ -100,12 +100,12 @@ fn convert_input(input: &mut [u8], out: &mut [u8]) -> u32
     exit::FAILED
 }
 
-fn convert() -> u32
+fn answer_all() -> u32
     ensures { λ r. ⌜ AnsweredOrFailed r ⌝ }
 {
     let mut input = [0u8; 32768];
     let mut out = [0u8; 524352];
-    convert_input(&mut input, &mut out)
+    answer_input(&mut input, &mut out)
 }
 
 // Does what the arguments ask, and gives the exit status.
@@ -130,7 +130,7 @@ pub extern "C" fn chiselbrow_run(version: &[u8]) -> u32
         b"chiselbrow: standard output",
     );
     let Asked::Done(status) = asked else {
-        return convert();
+        return answer_all();
     };
     status
 }

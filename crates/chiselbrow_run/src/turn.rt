@@ -8,8 +8,8 @@ ghost use Rattle.lines.specs.Program.{endingOf};
 ghost use Rattle.chiselbrow_run.specs.Turn.{Turned};
 use framing::goes_on;
 use framing::keep;
-use lines::convert::convert;
-use lines::convert::ending;
+use lines::buffer::ending;
+use lines::buffer::put_lines;
 
 // How many bytes were answered and how many are left, how many were written, and whether the run goes on.
 pub(crate) struct Turn {
@@ -37,7 +37,7 @@ pub(crate) fn answer(input: &mut [u8], ended: bool, out: &mut [u8]) -> Turn
     requires { ⌜ 16 * length (now input) + 64 ≤ length (now out) ⌝ }
     ensures { λ r. ⌜ Turned ended (now (input .entry)) (now (input .exit)) (now (out .entry)) (now (out .exit)) r ⌝ }
 {
-    let p = convert(input, out);
+    let p = put_lines(input, out);
     let read = p.read;
     let more = goes_on(ended, &input[read..]);
     let written = end(out, p.written, &input[read..], more);

@@ -12,7 +12,7 @@ use Rattle.text.proofs.Writing.{wrote-front, wrote-back}
 use Rattle.framing.specs.Framing.{framing}
 use Rattle.framing.proofs.Framed.{Next, next-is, next-none}
 use Rattle.lines.specs.Line.{lineOf}
-use Rattle.lines.specs.Program.{noPortion, portionThen, portionOf, nextWithRoom, progressOf, linesInto, Converted}
+use Rattle.lines.specs.Program.{noPortion, portionThen, portionOf, nextWithRoom, progressOf, linesInto, LinesPut}
 use Rattle.lines.proofs.Cutting.{portion-full, portion-none, portion-more}
 
 -- Where a record is next, 64 bytes of output are.
@@ -98,8 +98,8 @@ module _ (s out before : List ℕ) (read written : ℕ) (so-far : SoFar s (lengt
       ∙ ap (λ t. take written out ++ t) (sym rest)
       ∙ take-append-drop written out)
 
--- So far a buffer was converted: so much was read and written, and the record of n bytes is next.
-pub record Converting (input before out : List ℕ) (read written n : ℕ) : Type 0 where
+-- So far a buffer was lines-put: so much was read and written, and the record of n bytes is next.
+pub record PuttingLines (input before out : List ℕ) (read written n : ℕ) : Type 0 where
   pub read-within : read ≤ length input
   pub written-within : written ≤ length out
   pub same-length : length out ≡ length before
@@ -107,8 +107,8 @@ pub record Converting (input before out : List ℕ) (read written n : ℕ) : Typ
   pub so-far : SoFar input (length before) read out written
   pub rest-same : drop written out ≡ drop written before
 
-pub converting-starts : {n : ℕ} (input out : List ℕ) → n ≡ nextWithRoom input 0 (length out) → Converting input out out 0 0 n
-converting-starts input out next =
+pub putting-starts : {n : ℕ} (input out : List ℕ) → n ≡ nextWithRoom input 0 (length out) → PuttingLines input out out 0 0 n
+putting-starts input out next =
     let all : length out ≡ length out - 0 = omega arith in
     record {
       read-within = omega arith;
@@ -119,7 +119,7 @@ converting-starts input out next =
       rest-same = refl;
     }
 
-module _ {input before out : List ℕ} {read written n : ℕ} (κ : Converting input before out read written n) (some : n ≡ 0 → ⊥) where
+module _ {input before out : List ℕ} {read written n : ℕ} (κ : PuttingLines input before out read written n) (some : n ≡ 0 → ⊥) where
   here : (64 ≤ length before - written) × Next input read n
   here = room-is _ _ _ _ (κ .next) some
 
@@ -133,11 +133,11 @@ module _ {input before out : List ℕ} {read written n : ℕ} (κ : Converting i
   pub less-left : length input - (read + n) < length input - read
   less-left = omega (arith, here .1 .at-least, record-within)
 
-  pub converting-more : {out′ : List ℕ} {written′ n′ : ℕ}
+  pub putting-more : {out′ : List ℕ} {written′ n′ : ℕ}
       → Wrote out written (lineOf (take (read + n - read) (drop read input))) out′ written′
       → n′ ≡ nextWithRoom input (read + n) (length out′ - written′)
-      → Converting input before out′ (read + n) written′ n′
-  converting-more {out′} {written′} {n′} w next =
+      → PuttingLines input before out′ (read + n) written′ n′
+  putting-more {out′} {written′} {n′} w next =
       let long = w .same-length ∙ κ .same-length in
       record {
         read-within = record-within;
@@ -148,10 +148,10 @@ module _ {input before out : List ℕ} {read written n : ℕ} (κ : Converting i
         rest-same = rest-kept _ _ _ _ _ _ _ _ (here .0) (here .1) w _ (κ .rest-same);
       }
 
--- Where no record is next, all is converted.
-pub converted : {input before out : List ℕ} {read written n : ℕ} → Converting input before out read written n → n ≡ 0
-    → Converted input before out (record { read = read; written = written })
-converted {input} {before} {out} {read} {written} κ none =
+-- Where no record is next, all is lines-put.
+pub lines-put : {input before out : List ℕ} {read written n : ℕ} → PuttingLines input before out read written n → n ≡ 0
+    → LinesPut input before out (record { read = read; written = written })
+lines-put {input} {before} {out} {read} {written} κ none =
     let no-more = sym (κ .next) ∙ none in
     record {
       progress = progress-is input out before read written (κ .so-far) no-more (κ .written-within);

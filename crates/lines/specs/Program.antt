@@ -8,7 +8,7 @@ use lib.ListN.{length, drop}
 use Rattle.reckoning.specs.RefusalNumbers.{SHORT}
 use Rattle.framing.specs.Framing.{framing, nextOf}
 use Rattle.framing.specs.Run.{Writer, textOf}
-use Rattle.lines.specs.declared.convert.Progress.{Progress}
+use Rattle.lines.specs.declared.buffer.Progress.{Progress}
 use Rattle.text.specs.Piece.{refusedLine}
 use Rattle.lines.specs.Line.{lineOf}
 
@@ -53,7 +53,7 @@ portionOf s size = portion (framing s .records) size
 abbrev pub nextWithRoom : List ℕ → ℕ → ℕ → ℕ
 nextWithRoom s at size = cond (leb 64 size) (nextOf s at) 0
 
--- A buffer's records converted: how far it was read and how much was written,
+-- A buffer's records lines-put: how far it was read and how much was written,
 abbrev pub progressOf : Portion → Progress
 progressOf p = record { read = p .read; written = length (p .text) }
 
@@ -61,7 +61,7 @@ progressOf p = record { read = p .read; written = length (p .text) }
 abbrev pub linesInto : Portion → List ℕ → List ℕ
 linesInto p before = p .text ++ drop (length (p .text)) before
 
-pub record Converted (s before after : List ℕ) (r : Progress) : Type 0 where
+pub record LinesPut (s before after : List ℕ) (r : Progress) : Type 0 where
   pub progress : r ≡ progressOf (portionOf s (length before))
   pub output : after ≡ linesInto (portionOf s (length before)) before
   -- what a caller needs to go on

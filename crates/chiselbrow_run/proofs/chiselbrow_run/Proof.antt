@@ -19,8 +19,8 @@ enum-known-asked c = search needs
 enum-told : tie.Need-enum-told
 enum-told c = search needs
 
-convert-requires : tie.Need-convert-requires
-convert-requires c κs = search needs
+answer-all-requires : tie.Need-answer-all-requires
+answer-all-requires c κs = search needs
 
 returns : tie.Need-returns
 returns c = search needs
@@ -37,6 +37,6 @@ chiselbrow-run-spec =
     reply-requires
     enum-known-asked
     enum-told
-    convert-requires
+    answer-all-requires
     returns
     returns-2)

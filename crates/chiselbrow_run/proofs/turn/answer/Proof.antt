@@ -3,8 +3,8 @@ use borrow.Author.Needs.{needs}
 use Rattle.chiselbrow_run.proofs.turn.answer.Statement.{statement}
 use Rattle.chiselbrow_run.proofs.turn.answer.Tie as tie
 
-convert-requires : tie.Need-convert-requires
-convert-requires c κs = search needs
+put-lines-requires : tie.Need-put-lines-requires
+put-lines-requires c κs = search needs
 
 sub-goes-on : tie.Need-sub-goes-on
 sub-goes-on c = search needs
@@ -47,15 +47,15 @@ returns c =
     let kept = c .before .before in
     let ended = kept .before .before .before .before in
     let judged = ended .before .before .before .before in
-    let converted = judged .before .before .before .before .before in
-    let start = converted .before .before .before .before .before in
-    turned _ _ _ _ _ (start .pre) (converted .convert .ensures) (judged .goes-on .ensures) (ended .end .ensures) (kept .keep .ensures)
+    let lines-put = judged .before .before .before .before .before in
+    let start = lines-put .before .before .before .before .before in
+    turned _ _ _ _ _ (start .pre) (lines-put .put-lines .ensures) (judged .goes-on .ensures) (ended .end .ensures) (kept .keep .ensures)
 
 pub answer-spec : {M : Type 1} → statement M
 answer-spec =
     tie.close
     (tie.spec
-    convert-requires
+    put-lines-requires
     sub-goes-on
     part-goes-on-start
     part-goes-on-end

@@ -1,7 +1,7 @@
 use Rattle.lines.proofs.Lines.{put-no-ending, put-ending}
 use borrow.Author.Needs.{needs}
-use Rattle.lines.proofs.convert.ending.Statement.{statement}
-use Rattle.lines.proofs.convert.ending.Tie as tie
+use Rattle.lines.proofs.buffer.ending.Statement.{statement}
+use Rattle.lines.proofs.buffer.ending.Tie as tie
 
 returns : tie.Need-returns
 returns c = search put-no-ending

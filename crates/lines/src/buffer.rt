@@ -1,7 +1,7 @@
 // Records in a buffer, written as lines.
 ghost use mathlib.Core.Path.{_≡_};
 ghost use Rattle.text.specs.Put.{Put};
-ghost use Rattle.lines.specs.Program.{nextWithRoom, Converted, endingOf};
+ghost use Rattle.lines.specs.Program.{nextWithRoom, LinesPut, endingOf};
 use crate::line::put_line;
 use framing::next;
 use reckoning::refusal_numbers::SHORT;
@@ -23,8 +23,8 @@ fn next_with_room(s: &[u8], at: usize, size: usize) -> usize
 }
 
 // Writes the line of each whole record, as far as the output has room.
-pub fn convert(input: &[u8], out: &mut [u8]) -> Progress
-    ensures { λ r. ⌜ Converted (now (input .entry)) (now (out .entry)) (now (out .exit)) r ⌝ }
+pub fn put_lines(input: &[u8], out: &mut [u8]) -> Progress
+    ensures { λ r. ⌜ LinesPut (now (input .entry)) (now (out .entry)) (now (out .exit)) r ⌝ }
 {
     let mut read = 0;
     let mut written = 0;

@@ -1,13 +1,13 @@
 use Prim.Native.Nat.{_-_}
 use native.Mathlib.Omega.{arith}
 use lib.ListN.{length}
-use Rattle.lines.proofs.Turn.{Converting, converting-starts, record-within, line-has-room, less-left, converting-more, converted}
+use Rattle.lines.proofs.Turn.{PuttingLines, putting-starts, record-within, line-has-room, less-left, putting-more, lines-put}
 use borrow.Author.Needs.{needs}
-use Rattle.lines.proofs.convert.convert.Statement.{statement}
-use Rattle.lines.proofs.convert.convert.Tie as tie
+use Rattle.lines.proofs.buffer.put_lines.Statement.{statement}
+use Rattle.lines.proofs.buffer.put_lines.Tie as tie
 
 abbrev Inv-loop : tie.InvT-loop
-Inv-loop input out₀ read₀ written₀ n₀ out read written n = Converting input out₀ out read written n
+Inv-loop input out₀ read₀ written₀ n₀ out read written n = PuttingLines input out₀ out read written n
 
 abbrev μ-loop : tie.MeasureT-loop
 μ-loop input out₀ read₀ written₀ n₀ out read written n = length input - read
@@ -16,7 +16,7 @@ next-with-room-requires : tie.Need-next-with-room-requires Inv-loop μ-loop
 next-with-room-requires c κs = omega arith
 
 loop-holds : tie.Need-loop-holds Inv-loop μ-loop
-loop-holds c = search converting-starts
+loop-holds c = search putting-starts
 
 add-end : tie.Need-add-end Inv-loop μ-loop
 add-end c = omega (arith, record-within (c .before .loop .inv) (c .loop-test .taken))
@@ -43,16 +43,16 @@ loop-less : tie.Need-loop-less Inv-loop μ-loop
 loop-less c = search less-left
 
 loop-again : tie.Need-loop-again Inv-loop μ-loop
-loop-again c = search converting-more
+loop-again c = search putting-more
 
 same-length : tie.Need-same-length Inv-loop μ-loop
 same-length c = search needs
 
 returns : tie.Need-returns Inv-loop μ-loop
-returns c = search converted
+returns c = search lines-put
 
-pub convert-spec : {M : Type 1} → statement M
-convert-spec =
+pub put-lines-spec : {M : Type 1} → statement M
+put-lines-spec =
     tie.close
     (tie.spec
     Inv-loop

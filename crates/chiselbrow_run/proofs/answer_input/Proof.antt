@@ -4,8 +4,8 @@ use mathlib.Core.Path.{_≡_}
 use lib.ListN.{length}
 use Rattle.chiselbrow_run.proofs.Stepping.{room-left}
 use borrow.Author.Needs.{needs}
-use Rattle.chiselbrow_run.proofs.convert_input.Statement.{statement}
-use Rattle.chiselbrow_run.proofs.convert_input.Tie as tie
+use Rattle.chiselbrow_run.proofs.answer_input.Statement.{statement}
+use Rattle.chiselbrow_run.proofs.answer_input.Tie as tie
 
 abbrev Inv-loop : tie.InvT-loop
 Inv-loop input₀ out₀ kept₀ offset₀ turns₀ input out kept offset turns =
@@ -62,8 +62,8 @@ same-length-6 c = search needs
 returns-3 : tie.Need-returns-3 Inv-loop μ-loop
 returns-3 c = search needs
 
-pub convert-input-spec : {M : Type 1} → statement M
-convert-input-spec =
+pub answer-input-spec : {M : Type 1} → statement M
+answer-input-spec =
     tie.close
     (tie.spec
     Inv-loop

@@ -1,7 +1,7 @@
 use borrow.Author.Tests.{lt-leb, le-leb}
 use borrow.Author.Needs.{needs}
-use Rattle.lines.proofs.convert.next_with_room.Statement.{statement}
-use Rattle.lines.proofs.convert.next_with_room.Tie as tie
+use Rattle.lines.proofs.buffer.next_with_room.Statement.{statement}
+use Rattle.lines.proofs.buffer.next_with_room.Tie as tie
 
 returns : tie.Need-returns
 returns c = simp (lt-leb _ _ (c .if1 .taken))
