@@ -98,7 +98,7 @@ module _ (s out before : List ℕ) (read written : ℕ) (so-far : SoFar s (lengt
       ∙ ap (λ t. take written out ++ t) (sym rest)
       ∙ take-append-drop written out)
 
--- So far a buffer was lines-put: so much was read and written, and the record of n bytes is next.
+-- So far lines were put: so much was read and written, and the record of n bytes is next.
 pub record PuttingLines (input before out : List ℕ) (read written n : ℕ) : Type 0 where
   pub read-within : read ≤ length input
   pub written-within : written ≤ length out
@@ -148,7 +148,7 @@ module _ {input before out : List ℕ} {read written n : ℕ} (κ : PuttingLines
         rest-same = rest-kept _ _ _ _ _ _ _ _ (here .0) (here .1) w _ (κ .rest-same);
       }
 
--- Where no record is next, all is lines-put.
+-- Where no record is next, all lines are put.
 pub lines-put : {input before out : List ℕ} {read written n : ℕ} → PuttingLines input before out read written n → n ≡ 0
     → LinesPut input before out (record { read = read; written = written })
 lines-put {input} {before} {out} {read} {written} κ none =

@@ -53,7 +53,7 @@ portionOf s size = portion (framing s .records) size
 abbrev pub nextWithRoom : List ℕ → ℕ → ℕ → ℕ
 nextWithRoom s at size = cond (leb 64 size) (nextOf s at) 0
 
--- A buffer's records lines-put: how far it was read and how much was written,
+-- The lines of a buffer's records put: how far it was read and how much was written,
 abbrev pub progressOf : Portion → Progress
 progressOf p = record { read = p .read; written = length (p .text) }
 
