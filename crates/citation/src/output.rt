@@ -4,8 +4,11 @@ ghost use lib.Dec.{leb};
 ghost use lib.ListN.{length};
 ghost use Rattle.citation.specs.Output.{recordInto};
 
+// The bytes of a record that is written.
+pub type Record = [u8; 10];
+
 // Writes a record, and says whether there was room for it. In this order no jump is taken where there is.
-pub fn put(output: &mut [u8], bytes: [u8; 10]) -> bool
+pub fn put(output: &mut [u8], bytes: Record) -> bool
     ensures { λ r. ⌜ r ≡ leb 10 (length (now (output .entry))) ⌝ }
     ensures { λ _. ⌜ now (output .exit) ≡ recordInto bytes (now (output .entry)) ⌝ }
 {

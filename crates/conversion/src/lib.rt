@@ -6,6 +6,7 @@ ghost use lib.ListN.{length};
 ghost use Rattle.reckoning.specs.RefusalNumbers.{KIND};
 ghost use Rattle.conversion.specs.Conversion.{conversionRefusal, converted, conversionAnswer};
 ghost use Rattle.conversion.specs.Conversion.{convertedInto, renewed, leftWith};
+use citation::output::Record;
 use citation::output::put;
 use citation::store::REFUSAL_UNIT;
 use little_endian::le16;
@@ -62,7 +63,7 @@ fn refusal(s: &[u8]) -> u8
 }
 
 // The record of kind 5 for one of kind 2, whose first four bytes are known.
-fn raised(s: &[u8]) -> [u8; 10]
+fn raised(s: &[u8]) -> Record
     requires { ⌜ conversionRefusal (now s) ≡ 0 ⌝ }
     ensures { λ r. ⌜ r ≡ converted (now (s .entry)) ⌝ }
 {
