@@ -1,5 +1,5 @@
 // The command line of a program that takes one option or none.
-ghost use Rattle.process.specs.CommandLine.{Replied};
+ghost use Rattle.process.specs.CommandLine.{RepliedTo, Replied};
 use crate::exit;
 use arguments::options;
 use arguments::options::Wish;
@@ -17,8 +17,26 @@ fn wish() -> Wish {
     options::read(&text[..n])
 }
 
-// Replies to an option with the program's help, or its name and version, and to any other argument with its usage;
-// `what` names standard output where that fails.
+// Replies to a wish with the program's help, or its name and version, and to any other with its usage; `what` names
+// standard output where that fails.
+fn reply_to(
+    wish: Wish,
+    program: &[u8],
+    version: &[u8],
+    help: &[u8],
+    usage: &[u8],
+    what: &[u8],
+) -> Asked
+    ensures { λ r. ⌜ RepliedTo wish r ⌝ }
+{
+    match wish {
+        Wish::Help => Asked::Done(exit::reply(help, what)),
+        Wish::Version => Asked::Done(exit::reply_version(program, version, what)),
+        Wish::Other => Asked::Done(exit::misuse(usage)),
+    }
+}
+
+// Replies to an option, and to more arguments than one with the usage; without any the program is to run.
 pub fn reply(program: &[u8], version: &[u8], help: &[u8], usage: &[u8], what: &[u8]) -> Asked
     ensures { λ r. ⌜ Replied r ⌝ }
 {
@@ -28,9 +46,5 @@ pub fn reply(program: &[u8], version: &[u8], help: &[u8], usage: &[u8], what: &[
     if 2 < os::arg_count() {
         return Asked::Done(exit::misuse(usage));
     }
-    match wish() {
-        Wish::Help => Asked::Done(exit::reply(help, what)),
-        Wish::Version => Asked::Done(exit::reply_version(program, version, what)),
-        Wish::Other => Asked::Done(exit::misuse(usage)),
-    }
+    reply_to(wish(), program, version, help, usage, what)
 }
