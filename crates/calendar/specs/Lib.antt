@@ -7,7 +7,7 @@ pub mod Systems
 pub mod SixtyDayName
 -- The solstice, equal steps of a year, and how a moment is told.
 pub mod Steps
--- The 24 qi.
+-- The qi, 24 to a year.
 pub mod Qi
 -- The 72 pentads, and which of them is in force on a day.
 pub mod Pentad

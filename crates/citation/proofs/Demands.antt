@@ -17,7 +17,7 @@ use Rattle.calendar.proofs.Laws.{month-days, year-months, months-cover, months-
 use Rattle.reckoning.specs.Scope.{InScope}
 use Rattle.reckoning.specs.WordedRefusals.{FirstOf, yearRows, qiRows}
 use Rattle.reckoning.specs.ComputedRefusals.{yearRefusal, qiRefusal}
-use Rattle.reckoning.specs.Requests.{solsticeOf, noSolstice, qiOf, noMoment, yearOf, noYear, sheetOf, noSheet, daysOf, ordinalDayOf, monthOf, dateOf}
+use Rattle.reckoning.specs.Requests.{qiOf, noMoment, yearOf, noYear, sheetOf, noSheet, daysOf, ordinalDayOf, monthOf, dateOf}
 use Rattle.reckoning.specs.Outcomes.{DaysOutcome, OrdinalOutcome, MonthOutcome, DateOutcome}
 use Rattle.reckoning.proofs.RefusedRequests as Blanks
 use Rattle.reckoning.proofs.RequestsEnd as Outcomes
@@ -77,9 +77,6 @@ qi-refusal-is-the-first = Blanks.qi-refusal-first
 
 -- and then give their blanks with the number.
 module _ (system year : ℕ) (some : yearRefusal system year ≡ 0 → ⊥) where
-  pub solstice-blank : solsticeOf system year ≡ noSolstice (yearRefusal system year)
-  solstice-blank = Blanks.solstice-blank system year some
-
   pub months-blank : yearOf system year ≡ noYear (yearRefusal system year)
   months-blank = Blanks.year-blank system year some
 
@@ -110,10 +107,11 @@ module _ (system year : ℕ) (i : InScope system year) where
   abbrev n : ℕ
   n = yearsElapsed c year
 
-  pub solstice-holds : IsSolstice c n (solsticeOf system year)
-  solstice-holds = AnswersHeld.solstice-holds system year i
+  -- the solstice is qi 0
+  pub qi-0-is-solstice : IsSolstice c n (qiOf system year 0)
+  qi-0-is-solstice = AnswersHeld.qi-0-is-solstice system year i
 
-  pub qi-holds : (q : ℕ) → q ≤ 23 → IsQi c n q (qiOf system year q)
+  pub qi-holds : (q : ℕ) → q ≤ 24 → IsQi c n q (qiOf system year q)
   qi-holds = AnswersHeld.qi-holds system year i
 
   pub months-hold : ListsMonths c n (yearOf system year)

@@ -1,5 +1,5 @@
--- The proved examples of paper 01 as paper 02, Q-2, has them, and those of Q-3, Q-4, Q-6 and Q-7: one statement over a
--- table, computed.
+-- The proved examples of paper 01 as paper 02, Q-2, has them, and those of Q-3, Q-4, Q-6, Q-7 and Q-8: one statement
+-- over a table, computed.
 use Prim.Native.Nat.{ℕ, _+_, _*_, _-_, _^_, _/_, _%_}
 use mathlib.Core.Path.{_≡_, refl}
 use mathlib.Core.List.{List, [], _∷_, _++_, map}
@@ -11,27 +11,26 @@ use Rattle.calendar.specs.Qi.{qi}
 use Rattle.calendar.specs.Month.{newMoon, monthHead}
 use Rattle.calendar.specs.ClosedForms.{firstMonth}
 use Rattle.calendar.specs.LeapMonth.{lastLeap}
+use Rattle.reckoning.specs.declared.data.Moment.{Moment}
 use Rattle.reckoning.specs.Filled.{filled}
 use Rattle.reckoning.specs.ComputedRefusals.{yearRefusal, stepRefusal}
-use Rattle.reckoning.specs.Requests.{solsticeOf, stepOf, qiOf, pentadOf, inForceIn, pentadInForce, yearOf, monthsFrom}
+use Rattle.reckoning.specs.Requests.{stepOf, qiOf, pentadOf, inForceIn, pentadInForce, yearOf, monthsFrom}
 use Rattle.reckoning.specs.Requests.{ordinalDayOf, ordinalDayIn, monthOf, monthIn, dateOf, dateIn}
 use Rattle.citation.specs.Store.{judgeRegisterDay, judgeOrdinal, judgeDay, judgeName, judgeKind, lengthRight, judgeOf, refusalOf, toldOf, answerOf, storedInto}
 use Rattle.reckoning.specs.YearValue.{headIn, numberIn, leapIn}
 
 pub data Question : Type 0 where
-  -- the day, name and remainder of a solstice
-  Solstice : ℕ → ℕ → Question
   -- the day, name and remainder of a year's first new moon; before them, where solar and lunar parts are one, how many
   -- parts it stands before the solstice
   Moon : ℕ → ℕ → Question
   FirstMoon : ℕ → ℕ → Question
-  -- the day of a qi; how many days and how many parts it falls before the new moon of a month by its place from 1,
-  -- where solar and lunar parts are one
+  -- a qi, and a pentad: its refusal, day, the day's name, parts and units
   Qi : ℕ → ℕ → ℕ → Question
-  BeforeMoon : ℕ → ℕ → ℕ → ℕ → Question
-  -- a pentad: its refusal, day, the day's name, parts and units; the one in force on a register day: refusal, year,
-  -- number
   Pentad : ℕ → ℕ → ℕ → Question
+  -- how many days and how many parts a qi falls before the new moon of a month by its place from 1, where solar and
+  -- lunar parts are one
+  BeforeMoon : ℕ → ℕ → ℕ → ℕ → Question
+  -- the pentad in force on a register day: refusal, year, number
   InForceOn : ℕ → ℕ → Question
   -- a year's head, months and days
   Head : ℕ → ℕ → Question
@@ -54,23 +53,23 @@ firstMoon system year =
     let head = headIn (yearOf system year) 0 in
     head ∷ (nameOf head) ∷ (moon % c .lunar) ∷ []
 
+told : Moment → List ℕ
+told v = (v .refusal) ∷ (v .day .0) ∷ (nameOf (v .day .0)) ∷ (v .parts) ∷ (v .units) ∷ []
+
 pub answer : Question → List ℕ
-answer (Solstice system year) = let v = solsticeOf system year in (v .day .0) ∷ (nameOf (v .day .0)) ∷ (v .remainder) ∷ []
 answer (Moon system year) = firstMoon system year
 answer (FirstMoon system year) =
     let c = constantsOf system in
     let n = yearsElapsed c year in
     (solstice c n - newMoon c (firstMonth c n)) ∷ firstMoon system year
-answer (Qi system year i) = ((qiOf system year i) .day .0) ∷ []
+answer (Qi system year i) = told (qiOf system year i)
+answer (Pentad system year p) = told (pentadOf system year p)
 answer (BeforeMoon system year i place) =
     let c = constantsOf system in
     let n = yearsElapsed c year in
     let k = firstMonth c n + place - 1 in
     let moment = qi c n i in
     (monthHead c k - dayOf c (c .units) moment) ∷ (newMoon c k - moment / c .units) ∷ []
-answer (Pentad system year p) =
-    let v = pentadOf system year p in
-    (v .refusal) ∷ (v .day .0) ∷ (nameOf (v .day .0)) ∷ (v .parts) ∷ (v .units) ∷ []
 answer (InForceOn system r) = let v = pentadInForce system r in (v .refusal) ∷ (v .year) ∷ (v .pentad) ∷ []
 answer (Head system year) = (headIn (yearOf system year) 0) ∷ []
 answer (Months system year) = ((yearOf system year) .count) ∷ []
@@ -119,7 +118,7 @@ expected (question gives numbers) = numbers
 pub table : List Row
 table =
     -- cases 1 and 2
-    (Solstice 1 1092 gives (2_119_895 ∷ 25 ∷ 2320 ∷ []))
+    (Qi 1 1092 0 gives (0 ∷ 2_119_895 ∷ 25 ∷ 2320 ∷ 0 ∷ []))
     ∷ (FirstMoon 1 1092 gives (28_067 ∷ 2_119_892 ∷ 22 ∷ 10_343 ∷ []))
     -- case 3
     ∷ (Months 1 1092 gives (12 ∷ []))
@@ -149,7 +148,7 @@ table =
     ∷ (Month 1 1094 8 gives (2_120_808 ∷ 29 ∷ []))
     ∷ (Number 1 1094 7 gives (4 ∷ 1 ∷ []))
     -- the summer solstice falls just before its new moon, on the same day
-    ∷ (Qi 1 1094 12 gives (2_120_808 ∷ []))
+    ∷ (Qi 1 1094 12 gives (0 ∷ 2_120_808 ∷ 38 ∷ 3630 ∷ 0 ∷ []))
     ∷ (BeforeMoon 1 1094 12 8 gives (0 ∷ 76 ∷ []))
     -- paper 02, Q-3: a leap month 5 is refused, by date and by name, and the year's leap month told
     ∷ (Refusal (byDate 1 1094 5 1 1) gives (10 ∷ 4 ∷ []))
@@ -167,7 +166,7 @@ table =
     ∷ (Refusal (byDate 1 1094 5 1 31) gives (10 ∷ 4 ∷ []))
     ∷ (Refusal (byDate 1 1094 4 1 31) gives (7 ∷ 0 ∷ []))
     -- cases 7 and 8
-    ∷ (Solstice 2 1106 gives (2_125_008 ∷ 38 ∷ 4536 ∷ []))
+    ∷ (Qi 2 1106 0 gives (0 ∷ 2_125_008 ∷ 38 ∷ 4536 ∷ 0 ∷ []))
     ∷ (FirstMoon 2 1106 gives (50_806 ∷ 2_125_001 ∷ 31 ∷ 4760 ∷ []))
     ∷ (Months 2 1106 gives (12 ∷ []))
     -- case 9: four records of one day
@@ -212,7 +211,7 @@ table =
     ∷ (InForceOn 2 2_817_145 gives (7 ∷ 0 ∷ 0 ∷ []))
     ∷ (InForceOn 4 0 gives (4 ∷ 0 ∷ 0 ∷ []))
     -- Q-6: the solstice of 237, its year, and the next, whose last month is leap 10
-    ∷ (Solstice 3 237 gives (1_807_614 ∷ 44 ∷ 1161 ∷ []))
+    ∷ (Qi 3 237 0 gives (0 ∷ 1_807_614 ∷ 44 ∷ 1161 ∷ 0 ∷ []))
     ∷ (Moon 3 237 gives (1_807_606 ∷ 36 ∷ 3915 ∷ []))
     ∷ (Months 3 237 gives (12 ∷ []))
     ∷ (Days 3 237 gives (355 ∷ []))
@@ -220,7 +219,7 @@ table =
     ∷ (Number 3 238 13 gives (10 ∷ 1 ∷ []))
     ∷ (Month 3 238 13 gives (1_808_315 ∷ 30 ∷ []))
     -- solstice and new moon of 239 at one moment, 228 of 1,843 parts and 564 of 4,559
-    ∷ (Solstice 3 239 gives (1_808_345 ∷ 55 ∷ 228 ∷ []))
+    ∷ (Qi 3 239 0 gives (0 ∷ 1_808_345 ∷ 55 ∷ 228 ∷ 0 ∷ []))
     ∷ (Moon 3 239 gives (1_808_345 ∷ 55 ∷ 564 ∷ []))
     -- year 8 has leap 1 by the days of the middle qi; by their moments it would be leap 2
     ∷ (Number 3 8 4 gives (1 ∷ 1 ∷ []))
@@ -254,15 +253,32 @@ table =
     -- from the solstice of 237 one pentad, and three, which are a qi; the first and the last day of the years 1 to 3000
     ∷ (Pentad 3 237 1 gives (0 ∷ 1_807_619 ∷ 49 ∷ 1295 ∷ 11 ∷ []))
     ∷ (Pentad 3 237 3 gives (0 ∷ 1_807_629 ∷ 59 ∷ 1563 ∷ 33 ∷ []))
-    ∷ (Qi 3 237 1 gives (1_807_629 ∷ []))
+    ∷ (Qi 3 237 1 gives (0 ∷ 1_807_629 ∷ 59 ∷ 1563 ∷ 11 ∷ []))
     ∷ (InForceOn 3 330_190 gives (7 ∷ 0 ∷ 0 ∷ []))
     ∷ (InForceOn 3 1_721_415 gives (7 ∷ 0 ∷ 0 ∷ []))
     ∷ (InForceOn 3 1_721_416 gives (0 ∷ 1 ∷ 0 ∷ []))
     ∷ (InForceOn 3 2_817_156 gives (0 ∷ 3000 ∷ 71 ∷ []))
     ∷ (InForceOn 3 2_817_157 gives (7 ∷ 0 ∷ 0 ∷ []))
+    -- Q-8: the years of cases 1 and 7 and 237 of Jingchu end 365 days and 2,930, 1,776 and 455 parts after they began,
+    -- where the next begin
+    ∷ (Qi 1 1092 24 gives (0 ∷ 2_120_260 ∷ 30 ∷ 5250 ∷ 0 ∷ []))
+    ∷ (Qi 1 1093 0 gives (0 ∷ 2_120_260 ∷ 30 ∷ 5250 ∷ 0 ∷ []))
+    ∷ (Qi 2 1106 24 gives (0 ∷ 2_125_373 ∷ 43 ∷ 6312 ∷ 0 ∷ []))
+    ∷ (Qi 2 1107 0 gives (0 ∷ 2_125_373 ∷ 43 ∷ 6312 ∷ 0 ∷ []))
+    ∷ (Qi 3 237 24 gives (0 ∷ 1_807_979 ∷ 49 ∷ 1616 ∷ 0 ∷ []))
+    ∷ (Qi 3 238 0 gives (0 ∷ 1_807_979 ∷ 49 ∷ 1616 ∷ 0 ∷ []))
+    -- so do the last years, though the year after is refused
+    ∷ (Qi 1 3000 24 gives (0 ∷ 2_817_145 ∷ 15 ∷ 1740 ∷ 0 ∷ []))
+    ∷ (Qi 2 3000 24 gives (0 ∷ 2_817_145 ∷ 15 ∷ 2076 ∷ 0 ∷ []))
+    ∷ (Qi 3 3000 24 gives (0 ∷ 2_817_157 ∷ 27 ∷ 12 ∷ 0 ∷ []))
+    ∷ (Qi 1 3001 0 gives (5 ∷ 0 ∷ 50 ∷ 0 ∷ 0 ∷ []))
+    -- refused, with zeros
+    ∷ (Qi 4 0 25 gives (4 ∷ 0 ∷ 50 ∷ 0 ∷ 0 ∷ []))
+    ∷ (Qi 1 0 25 gives (5 ∷ 0 ∷ 50 ∷ 0 ∷ 0 ∷ []))
+    ∷ (Qi 1 3000 25 gives (9 ∷ 0 ∷ 50 ∷ 0 ∷ 0 ∷ []))
     ∷ []
 
 pub examples : map asked table ≡ map expected table
-unfolding firstMoon answer asked expected table first-of-case-9 then byOrdinal byDate byName byDay solsticeOf stepOf inForceIn pentadInForce yearOf yearRefusal stepRefusal monthsFrom filled
+unfolding firstMoon told answer asked expected table first-of-case-9 then byOrdinal byDate byName byDay stepOf inForceIn pentadInForce yearOf yearRefusal stepRefusal monthsFrom filled
     lastLeap refusalOf answerOf storedInto judgeOf lengthRight judgeKind judgeDay judgeName judgeOrdinal judgeRegisterDay ordinalDayOf ordinalDayIn monthOf monthIn dateOf dateIn
 examples = refl

@@ -7,9 +7,8 @@ use lib.ListN.{length}
 use Rattle.calendar.specs.SixtyDayName.{nameOf}
 use Rattle.reckoning.specs.declared.data.Days.{Days}
 use Rattle.reckoning.specs.declared.data.Sheet.{Sheet}
-use Rattle.reckoning.specs.declared.data.Solstice.{Solstice}
 use Rattle.reckoning.specs.declared.data.Year.{Year}
-use Rattle.reckoning.specs.Requests.{solsticeOf, yearOf, sheetOf, daysOf}
+use Rattle.reckoning.specs.Requests.{yearOf, sheetOf, daysOf}
 use Rattle.reckoning.specs.YearValue.{headIn, numberIn, leapIn}
 use Rattle.text.specs.Piece.{word, year, month, numbered, line, refusedLine, textsUpTo}
 use Rattle.text.specs.Put.{Put}
@@ -18,7 +17,7 @@ use Rattle.text.proofs.Writing.{wrote-as, wrote-then, wrote-one-more}
 use Rattle.text.proofs.Putting.{Puts, put-wrote, put-refusal, wrote-told}
 use Rattle.pages.specs.declared.steps.Steps.the-variants.{Qi}
 use Rattle.pages.specs.StepLines.{stepLines}
-use Rattle.pages.specs.Page.{yearLine, solsticeLine, solarLines, monthLine, monthLines, nextLine}
+use Rattle.pages.specs.Page.{yearLine, monthLine, monthLines, nextLine}
 use Rattle.pages.specs.Page.{lunarLines, nameAt, sheetNames, namesLine, monthAt, yearLines, pageOf}
 
 -- A loop's texts, one more and all.
@@ -57,13 +56,6 @@ module _ {b a : List ℕ} {at e rooms : ℕ} where
   unfolding yearLine
   put-year-line system n months days w = w
 
-  pub put-solstice : {name : ℕ} (s : Solstice) → name ≡ nameOf (s .day .0)
-      → Puts b at rooms
-      (line (115 ∷ 111 ∷ 108 ∷ 115 ∷ 116 ∷ 105 ∷ 99 ∷ 101 ∷ []) (s .day .0 ∷ name ∷ s .remainder ∷ [])) a e
-      → Puts b at rooms (solsticeLine s) a e
-  unfolding solsticeLine
-  put-solstice s is w = rw is at w
-
   pub put-month-line : (place number leap head name days : ℕ)
       → Puts b at rooms
       (numbered (109 ∷ 111 ∷ 110 ∷ 116 ∷ 104 ∷ []) place ++ (month number leap ++ line [] (head ∷ name ∷ days ∷ []))) a e
@@ -84,17 +76,11 @@ pub wrote-month-at : {b a : List ℕ} {at e name : ℕ} (months : Year) (i : ℕ
 unfolding monthAt
 wrote-month-at months i is w = rw is at w
 
--- The lines of the sun, of the moon, and of the names.
-module _ {b m a : List ℕ} {at p e : ℕ} where
-  pub wrote-solar : {solstice : Solstice} (system n : ℕ) → solstice ≡ solsticeOf system n
-      → Wrote b at (solsticeLine solstice) m p → Wrote m p (stepLines Qi 24 system n) a e → Wrote b at (solarLines system n) a e
-  unfolding solarLines
-  wrote-solar system n is w v = wrote-then (wrote-as (ap solsticeLine is) w) v
-
-  pub wrote-lunar : (months : Year) → Wrote b at (monthLines months) m p → Wrote m p (nextLine months) a e
-      → Wrote b at (lunarLines months) a e
-  unfolding lunarLines
-  wrote-lunar months w v = wrote-then w v
+-- The lines of the months, and of the names.
+pub wrote-lunar : {b m a : List ℕ} {at p e : ℕ} (months : Year)
+    → Wrote b at (monthLines months) m p → Wrote m p (nextLine months) a e → Wrote b at (lunarLines months) a e
+unfolding lunarLines
+wrote-lunar months w v = wrote-then w v
 
 pub put-names : {b m₁ m₂ a : List ℕ} {at p₁ p₂ e : ℕ} (sheet : Sheet) (days : ℕ)
     → Put b at 5 (word (110 ∷ 97 ∷ 109 ∷ 101 ∷ 115 ∷ [])) m₁ p₁
@@ -115,7 +101,7 @@ put-names sheet days first names near last =
 -- The whole page: of a year answered, and of one refused.
 pub wrote-year-lines : {b m₁ m₂ m₃ a : List ℕ} {at p₁ p₂ p₃ e : ℕ} (system n : ℕ) (months : Year) (days : ℕ) (sheet : Sheet)
     → Wrote b at (yearLine system n (months .count) days) m₁ p₁
-    → Wrote m₁ p₁ (solarLines system n) m₂ p₂
+    → Wrote m₁ p₁ (stepLines Qi 25 system n) m₂ p₂
     → Wrote m₂ p₂ (lunarLines months) m₃ p₃
     → Wrote m₃ p₃ (namesLine sheet days) a e
     → Wrote b at (yearLines system n months days sheet) a e

@@ -4,9 +4,8 @@ use mathlib.Core.List.{List, [], _∷_, _++_}
 use lib.ListN.{getD}
 use Rattle.calendar.specs.SixtyDayName.{nameOf}
 use Rattle.reckoning.specs.declared.data.Sheet.{Sheet}
-use Rattle.reckoning.specs.declared.data.Solstice.{Solstice}
 use Rattle.reckoning.specs.declared.data.Year.{Year}
-use Rattle.reckoning.specs.Requests.{solsticeOf, yearOf, sheetOf, daysOf}
+use Rattle.reckoning.specs.Requests.{yearOf, sheetOf, daysOf}
 use Rattle.reckoning.specs.YearValue.{headIn, numberIn, leapIn}
 use Rattle.text.specs.Piece.{word, field, year, month, numbered, line, toldUnless, textsUpTo}
 use Rattle.pages.specs.declared.steps.Steps.the-variants.{Qi}
@@ -15,15 +14,6 @@ use Rattle.pages.specs.StepLines.{stepLines}
 -- "year ", then letter and year, how many months and days.
 unfoldable pub yearLine : ℕ → ℕ → ℕ → ℕ → List ℕ
 yearLine system n months days = word (121 ∷ 101 ∷ 97 ∷ 114 ∷ 32 ∷ []) ++ (year system n ++ line [] (months ∷ days ∷ []))
-
--- "solstice", day with its name, remainder.
-unfoldable pub solsticeLine : Solstice → List ℕ
-solsticeLine s =
-    line (115 ∷ 111 ∷ 108 ∷ 115 ∷ 116 ∷ 105 ∷ 99 ∷ 101 ∷ []) (s .day .0 ∷ nameOf (s .day .0) ∷ s .remainder ∷ [])
-
--- The solstice and the qi.
-unfoldable pub solarLines : ℕ → ℕ → List ℕ
-solarLines system year = solsticeLine (solsticeOf system year) ++ stepLines Qi 24 system year
 
 -- "month", place from 1, number, '*' directly after it if leap, head, name of the head, length.
 unfoldable pub monthLine : ℕ → ℕ → ℕ → ℕ → ℕ → ℕ → List ℕ
@@ -58,11 +48,11 @@ sheetNames sheet days = textsUpTo (nameAt sheet) days
 unfoldable pub namesLine : Sheet → ℕ → List ℕ
 namesLine sheet days = word (110 ∷ 97 ∷ 109 ∷ 101 ∷ 115 ∷ []) ++ (sheetNames sheet days ++ word (10 ∷ []))
 
--- The lines of a year that has these months and so many days, named on the sheet.
+-- The lines of a year that has these months and so many days, named on the sheet: with its qi from 0 to 24.
 unfoldable pub yearLines : ℕ → ℕ → Year → ℕ → Sheet → List ℕ
 yearLines system year months days sheet =
     yearLine system year (months .count) days
-    ++ (solarLines system year ++ (lunarLines months ++ namesLine sheet days))
+    ++ (stepLines Qi 25 system year ++ (lunarLines months ++ namesLine sheet days))
 
 -- The page of a year, or the line of its refusal.
 unfoldable pub pageOf : ℕ → ℕ → List ℕ

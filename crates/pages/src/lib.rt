@@ -1,4 +1,4 @@
-// Pages for people: of a year, with its solstice and qi, its months, and the names of its days; of its pentads; and the
+// Pages for people: of a year, with its qi, its months, and the names of its days; of its pentads; and the
 // line of the pentad in force on a day.
 //
 // Each is put into an output at a place, or the line of its refusal; where too few bytes are left there, the output and
@@ -11,7 +11,6 @@ use calendar::data::RegisterDay;
 mod lunar;
 mod names;
 mod pentads;
-mod solar;
 mod steps;
 mod whole;
 

@@ -1,11 +1,12 @@
-// The page of a year: its first line, those of the sun and the moon, and the names of its days.
+// The page of a year: its first line, its qi, its months, and the names of its days.
 ghost use Prim.Native.Nat.{_+_, _≤_};
 ghost use lib.ListN.{length};
 ghost use Rattle.text.specs.Wrote.{Wrote};
 ghost use Rattle.pages.specs.Printable.{Printable};
 ghost use Rattle.pages.specs.Page.{yearLine, sheetNames, namesLine, yearLines, pageOf};
 use crate::lunar;
-use crate::solar;
+use crate::steps;
+use crate::steps::Steps;
 use reckoning::data::Sheet;
 use reckoning::data::Year;
 
@@ -62,7 +63,7 @@ fn year_lines(
         ⌝ }
 {
     let at = year_line(out, at, system, year, months.count, days);
-    let at = solar::lines(out, at, system, year);
+    let at = steps::lines(out, at, Steps::Qi, 25, system, year);
     let at = lunar::lines(out, at, months);
     names_line(out, at, sheet, days)
 }

@@ -1,5 +1,4 @@
--- The answers for a solstice, a qi, a pentad and a day sheet hold what the reckoning says, in each system and year in
--- scope.
+-- The answers for a qi, a pentad and a day sheet hold what the reckoning says, in each system and year in scope.
 use Prim.Native.Nat.{ℕ, _+_, _*_, _-_, _≤_}
 use mathlib.Core.Path.{_≡_, refl, subst, subst₂, sym, ap, _∙_}
 use native.Mathlib.Omega.{arith}
@@ -7,10 +6,12 @@ use lib.ListN.{getD-replicate}
 use Rattle.calendar.specs.declared.data.Constants.{Constants}
 use Rattle.calendar.specs.Systems.{constantsOf, yearsElapsed, registerDay}
 use Rattle.calendar.specs.Steps.{moment, dayOf}
+use Rattle.calendar.specs.Qi.{qi}
 use Rattle.calendar.specs.ClosedForms.{headOfYear}
-use Rattle.calendar.proofs.EachSystem.{consistent}
+use Rattle.calendar.proofs.EachSystem.{consistent, one-a-year}
 use Rattle.calendar.proofs.Spans.{span}
 use Rattle.calendar.proofs.Steps.{told}
+use Rattle.calendar.proofs.QiLaws.{qi-closes, qi-zero}
 use Rattle.calendar.proofs.PentadLaws.{every-third-told-alike}
 use Rattle.calendar.proofs.NameLaws.{names-agree}
 use Rattle.reckoning.specs.Scope.{InScope}
@@ -18,7 +19,7 @@ use Rattle.reckoning.specs.ComputedRefusals.{yearRefusal, stepRefusal}
 use Rattle.reckoning.specs.Divisions.{Division, qis, pentads}
 use Rattle.reckoning.specs.Asked.{askedOf}
 use Rattle.reckoning.specs.WordBounds.{StepFits, YearInRegister}
-use Rattle.reckoning.specs.Requests.{solsticeIn, noSolstice, solsticeOf, noMoment, stepIn, stepOf, qiOf, pentadOf}
+use Rattle.reckoning.specs.Requests.{momentIn, noMoment, stepIn, stepOf, qiOf, pentadOf}
 use Rattle.reckoning.specs.Requests.{nameAt, noNames, sheetIn, noSheet, sheetOf}
 use Rattle.reckoning.specs.AnswerMeanings.{IsSolstice, IsMoment, IsQi, IsPentad, SameMoment, IsSheet}
 use Rattle.reckoning.proofs.FilledLaws.{filled-below, filled-past, filled-length}
@@ -37,13 +38,6 @@ module _ (system year : ℕ) (s : InScope system year) where
 
   r : YearInRegister c n
   r = year-in-register system year (s .year-inside)
-
-  pub solstice-holds : IsSolstice c n (solsticeOf system year)
-  unfolding solsticeOf
-  solstice-holds =
-      subst (IsSolstice c n)
-      (answered solsticeIn noSolstice (askedOf (yearRefusal system year) system year) _ refl (in-scope system year s))
-      (record { accepted = refl; day = omega (arith, r .solstice-day); remainder = refl })
 
   -- a step of the year, told
   told-step : (s u i : ℕ) → StepFits c s u n i → IsMoment c u (moment c s u n i) (stepIn s u i c n)
@@ -78,8 +72,28 @@ module _ (system year : ℕ) (s : InScope system year) where
         subst (IsMoment c (division .units c) (moment c (division .steps) (division .units c) n i)) step-answered
         (told-step (division .steps) (division .units c) i (asked-fits division sound system year i refl accepted))
 
-  pub qi-holds : (i : ℕ) → i ≤ 23 → IsQi c n i (qiOf system year i)
+  pub qi-holds : (i : ℕ) → i ≤ 24 → IsQi c n i (qiOf system year i)
   qi-holds i h = step-holds qis i h qis-sound
+
+  -- Qi 0 is the solstice,
+  pub qi-0-is-solstice : IsSolstice c n (qiOf system year 0)
+  qi-0-is-solstice =
+      let zero = qi-zero c (consistent system) n in
+      subst (IsSolstice c n) (step-answered qis 0 (omega arith))
+      (record {
+        accepted = refl;
+        day = omega (arith, r .solstice-day, zero .0);
+        remainder = zero .1;
+        no-units = zero .2;
+      })
+
+  -- and qi 24 is qi 0 of the year after, to the last unit, be that year in scope or not.
+  closed : qi c n 24 ≡ qi c (yearsElapsed c (year + 1)) 0
+  closed = qi-closes c (consistent system) n ∙ ap (λ m. qi c m 0) (sym (one-a-year c (consistent system) year))
+
+  pub qi-24-is-next-qi-0 : IsQi c (yearsElapsed c (year + 1)) 0 (qiOf system year 24)
+  qi-24-is-next-qi-0 =
+      subst (λ m. IsMoment c (c .units) m (qiOf system year 24)) closed (qi-holds 24 (omega arith))
 
   pub pentad-holds : (p : ℕ) → p ≤ 71 → IsPentad c n p (pentadOf system year p)
   pentad-holds p h = step-holds pentads p h pentads-sound
@@ -88,7 +102,7 @@ module _ (system year : ℕ) (s : InScope system year) where
   pub third-pentad-is-qi : (i : ℕ) → i ≤ 23 → SameMoment c (pentadOf system year (3 * i)) (qiOf system year i)
   third-pentad-is-qi i h =
       let t = every-third-told-alike c (consistent system) n i in
-      subst₂ (SameMoment c) (step-answered pentads (3 * i) (omega arith)) (step-answered qis i h)
+      subst₂ (SameMoment c) (step-answered pentads (3 * i) (omega arith)) (step-answered qis i (omega arith))
       (record { day = ap (registerDay c) (t .day); parts = t .parts; units = t .units })
 
   pub sheet-holds : IsSheet c n (sheetOf system year)
@@ -111,3 +125,12 @@ module _ (system year : ℕ) (s : InScope system year) where
             ∙ names-agree c (consistent system) (head + i) (headOfYear c n + i) (omega arith);
         past = λ i h l. filled-past (nameAt head) noNames 0 long i (omega arith) ∙ getD-replicate 384 i 255 0 l;
       })
+
+-- Where the year after is in scope too, they are one answer.
+pub qi-24-answered-alike : (system year : ℕ) → InScope system year → InScope system (year + 1)
+    → qiOf system year 24 ≡ qiOf system (year + 1) 0
+qi-24-answered-alike system year s next =
+    let c = constantsOf system in
+    sym (step-answered system year s qis 24 (omega arith))
+    ∙ ap (momentIn c (c .units)) (closed system year s)
+    ∙ step-answered system (year + 1) next qis 0 (omega arith)

@@ -9,7 +9,7 @@ use Rattle.reckoning.specs.WordedRefusals.{FirstOf, yearRows, stepRows, 
 use Rattle.reckoning.specs.ComputedRefusals.{yearRefusal, stepRefusal, qiRefusal, pentadRefusal}
 use Rattle.reckoning.specs.Divisions.{Division, qis, pentads}
 use Rattle.reckoning.specs.Asked.{askedOf}
-use Rattle.reckoning.specs.Requests.{answerUnless, solsticeIn, noSolstice, solsticeOf, noMoment, stepIn, stepOf, qiOf, pentadOf}
+use Rattle.reckoning.specs.Requests.{answerUnless, noMoment, stepIn, stepOf, qiOf, pentadOf}
 use Rattle.reckoning.specs.Requests.{yearIn, noYear, yearOf, sheetIn, noSheet, sheetOf}
 use Rattle.reckoning.proofs.RefusalCases.{by-scope, in-scope, in-scope-step, step-unseen, step-refused}
 use Rattle.reckoning.proofs.AnswerUnless.{refused}
@@ -38,7 +38,7 @@ step-refusal-first most system year i =
     ))
 
 pub qi-refusal-first : (system year i : ℕ) → FirstOf (qiRows system year i) (qiRefusal system year i)
-qi-refusal-first = step-refusal-first 23
+qi-refusal-first = step-refusal-first 24
 
 pub pentad-refusal-first : (system year p : ℕ) → FirstOf (pentadRows system year p) (pentadRefusal system year p)
 pentad-refusal-first = step-refusal-first 71
@@ -50,10 +50,6 @@ blank-given answer blank refusal system year some =
     sym (refused answer blank (askedOf refusal system year) (askedOf refusal system year) refl some)
 
 module _ (system year : ℕ) (some : yearRefusal system year ≡ 0 → ⊥) where
-  pub solstice-blank : solsticeOf system year ≡ noSolstice (yearRefusal system year)
-  unfolding solsticeOf
-  solstice-blank = blank-given solsticeIn noSolstice (yearRefusal system year) system year some
-
   pub year-blank : yearOf system year ≡ noYear (yearRefusal system year)
   unfolding yearOf
   year-blank = blank-given yearIn noYear (yearRefusal system year) system year some

@@ -1,4 +1,4 @@
--- What the answers for a solstice, a qi, a pentad and a day sheet hold, in the paper's words.
+-- What the answers for a qi, a pentad and a day sheet hold, in the paper's words.
 use Prim.Native.Nat.{ℕ, _+_, _*_, _≤_, _<_}
 use mathlib.Core.Path.{_≡_}
 use lib.ListN.{length, getD}
@@ -9,15 +9,8 @@ use Rattle.calendar.specs.Steps.{solsticeDay, solsticeRemainder}
 use Rattle.calendar.specs.Qi.{qi}
 use Rattle.calendar.specs.Pentad.{pentad}
 use Rattle.calendar.specs.Year.{Span, yearHead, yearLength}
-use Rattle.reckoning.specs.declared.data.Solstice.{Solstice}
 use Rattle.reckoning.specs.declared.data.Moment.{Moment}
 use Rattle.reckoning.specs.declared.data.Sheet.{Sheet}
-
--- The solstice of year n.
-pub record IsSolstice (c : Constants) (n : ℕ) (v : Solstice) : Type 0 where
-  pub accepted : v .refusal ≡ 0
-  pub day : IsRegisterDay c (v .day .0) (solsticeDay c n)
-  pub remainder : v .remainder ≡ solsticeRemainder c n
 
 -- The moment m, counted in units of which a part has u: its day, parts and units together, to the last unit.
 pub record IsMoment (c : Constants) (u m : ℕ) (v : Moment) : Type 0 where
@@ -32,6 +25,13 @@ pub record IsMoment (c : Constants) (u m : ℕ) (v : Moment) : Type 0 where
 -- Qi i of year n, in small units.
 abbrev pub IsQi : Constants → ℕ → ℕ → Moment → Type 0
 IsQi c n i v = IsMoment c (c .units) (qi c n i) v
+
+-- The solstice of year n: its day and its remainder, in whole parts.
+pub record IsSolstice (c : Constants) (n : ℕ) (v : Moment) : Type 0 where
+  pub accepted : v .refusal ≡ 0
+  pub day : IsRegisterDay c (v .day .0) (solsticeDay c n)
+  pub remainder : v .parts ≡ solsticeRemainder c n
+  pub no-units : v .units ≡ 0
 
 -- Pentad p of year n, in the units of its fraction.
 abbrev pub IsPentad : Constants → ℕ → ℕ → Moment → Type 0

@@ -45,7 +45,7 @@ wrongStep most i = STEP if ltb most i
 unfoldable pub yearRefusal : ℕ → ℕ → ℕ
 yearRefusal system year = first (wrongSystem system ∷ wrongYear year ∷ [])
 
--- and then STEP where one of the year's steps is asked, of which the last has number `most`:
+-- and then STEP where one of the year's steps is asked, numbered 0 to `most`:
 unfoldable pub stepRefusal : ℕ → ℕ → ℕ → ℕ → ℕ
 stepRefusal most system year i = first (wrongSystem system ∷ wrongYear year ∷ wrongStep most i ∷ [])
 

@@ -9,9 +9,9 @@ pub record Division : Type 0 where
   pub last : ℕ
   pub units : Constants → ℕ
 
--- Qi 0 to 23, in small units.
+-- Qi 0 to 24, in small units: 24 is qi 0 of the year after (paper 02, Q-8).
 abbrev pub qis : Division
-qis = record { steps = 24; last = 23; units = λ c. c .units }
+qis = record { steps = 24; last = 24; units = λ c. c .units }
 
 -- Pentads 0 to 71, in 36ths or 60ths.
 abbrev pub pentads : Division

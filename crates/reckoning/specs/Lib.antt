@@ -22,7 +22,7 @@ pub mod MonthSpans
 pub mod Requests
 -- What the value of a year's months holds, in the paper's words.
 pub mod YearValue
--- What the answers for a solstice, a qi, a pentad and a day sheet hold.
+-- What the answers for a qi, a pentad and a day sheet hold.
 pub mod AnswerMeanings
 -- How the other requests can end.
 pub mod Outcomes

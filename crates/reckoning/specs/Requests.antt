@@ -8,11 +8,10 @@ use Rattle.calendar.specs.declared.data.Constants.{Constants}
 use Rattle.calendar.specs.declared.data.RegisterDay.{RegisterDay}
 use Rattle.calendar.specs.Systems.{constantsOf, yearsElapsed, registerDay, countDay}
 use Rattle.calendar.specs.SixtyDayName.{nameOf}
-use Rattle.calendar.specs.Steps.{solsticeDay, solsticeRemainder, moment, dayOf, partsOf, unitsOf}
+use Rattle.calendar.specs.Steps.{moment, dayOf, partsOf, unitsOf}
 use Rattle.calendar.specs.Month.{monthHead}
 use Rattle.calendar.specs.ClosedForms.{pentadOn, monthOfDay, firstMonth, headOfYear, registerHead, yearOfMonth, monthNumber, leapMark, monthCited}
 use Rattle.calendar.specs.LeapMonth.{leapNumber}
-use Rattle.reckoning.specs.declared.data.Solstice.{Solstice}
 use Rattle.reckoning.specs.declared.asked.Asked.{Asked}
 use Rattle.reckoning.specs.declared.data.Moment.{Moment}
 use Rattle.reckoning.specs.declared.data.PentadInForce.{PentadInForce}
@@ -50,17 +49,6 @@ answerOfSystem system answer blank = cond (noSuchSystem system) (blank SYSTEM) (
 -- A request by year, of a system's constants: refused YEAR where the year is out of scope, or answered.
 abbrev pub answerOfYear : {A : Type 0} → Constants → ℕ → (Constants → ℕ → A) → (ℕ → A) → A
 answerOfYear c year answer blank = cond (outOfYears year) (blank YEAR) (answer c (yearsElapsed c year))
-
--- The solstice of year n. Refused: zeros.
-abbrev pub solsticeIn : Constants → ℕ → Solstice
-solsticeIn c n =
-    record { refusal = 0; day = asRegisterDay (registerDay c (solsticeDay c n)); remainder = solsticeRemainder c n }
-
-abbrev pub noSolstice : ℕ → Solstice
-noSolstice refusal = record { refusal = refusal; day = asRegisterDay 0; remainder = 0 }
-
-unfoldable pub solsticeOf : ℕ → ℕ → Solstice
-solsticeOf system year = answerUnless (yearRefusal system year) system year solsticeIn noSolstice
 
 -- A moment m, counted in units of which a part has u, told as register day, parts and units. Refused: zeros.
 abbrev pub momentIn : Constants → ℕ → ℕ → Moment

@@ -21,13 +21,13 @@ FirstOf ((refusal when applies) ∷ rows) number =
 abbrev pub yearRows : ℕ → ℕ → List Row
 yearRows system year = SYSTEM when (SystemInScope system → ⊥) ∷ YEAR when (YearInScope year → ⊥) ∷ []
 
--- and then STEP where one of the year's steps is asked, of which the last has number `most`:
+-- and then STEP where one of the year's steps is asked, numbered 0 to `most`:
 abbrev pub stepRows : ℕ → ℕ → ℕ → ℕ → List Row
 stepRows most system year i = yearRows system year ++ (STEP when (most < i) ∷ [])
 
 -- a qi,
 abbrev pub qiRows : ℕ → ℕ → ℕ → List Row
-qiRows system year i = stepRows 23 system year i
+qiRows system year i = stepRows 24 system year i
 
 -- or a pentad.
 abbrev pub pentadRows : ℕ → ℕ → ℕ → List Row

@@ -1,13 +1,6 @@
 // What the requests answer. Each carries its refusal number, 0 when the request was answered.
 use calendar::data::RegisterDay;
 
-// A winter solstice: its day, and the parts left over of it.
-pub struct Solstice {
-    pub refusal: u8,
-    pub day: RegisterDay,
-    pub remainder: u32,
-}
-
 // The moment of a qi or of a pentad: its day, and the parts and units left over of it. Units are a qi's small units,
 // and of a pentad those in which its fraction is told.
 pub struct Moment {

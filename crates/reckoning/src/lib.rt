@@ -1,4 +1,4 @@
-// The requests by system and year: solstice, qi, pentad, months, days, day sheet and head; one month; one day by its
+// The requests by system and year: qi, pentad, months, days, day sheet and head; one month; one day by its
 // ordinal; the date, the pentad in force and the name of a day.
 //
 // System, year, qi and pentad number come as 32 bits, so that no number is cut before it can be refused. A refused
@@ -11,7 +11,7 @@ ghost use Rattle.calendar.specs.ClosedForms.{registerHead};
 ghost use Rattle.calendar.specs.LeapMonth.{leapNumber};
 ghost use Rattle.reckoning.specs.Scope.{InScope};
 ghost use Rattle.reckoning.specs.ComputedRefusals.{yearRefusal};
-ghost use Rattle.reckoning.specs.Requests.{solsticeOf, qiOf, pentadOf, yearOf, sheetOf, daysOf, yearHeadOf};
+ghost use Rattle.reckoning.specs.Requests.{qiOf, pentadOf, yearOf, sheetOf, daysOf, yearHeadOf};
 ghost use Rattle.reckoning.specs.Requests.{answerUnless, noMonth, monthSilent, monthOf, ordinalDayIn, ordinalDayOf, dateOf, pentadInForce};
 use calendar::data::DayName;
 use calendar::data::Ordinal;
@@ -26,7 +26,6 @@ use data::Month;
 use data::OrdinalDay;
 use data::PentadInForce;
 use data::Sheet;
-use data::Solstice;
 use data::Year;
 use data::YearHead;
 use refusal_numbers::DAY;
@@ -45,31 +44,16 @@ mod ordinals;
 mod pentads;
 pub mod refusal;
 pub mod refusal_numbers;
-mod solar;
+mod steps;
 mod year_days;
 mod year_heads;
 
-// The winter solstice of a year.
-pub fn solstice(system: u32, year: u32) -> Solstice
-    ensures { λ r. ⌜ r ≡ solsticeOf system year ⌝ }
-{
-    let asked = asked::of_year(system, year);
-    if asked.refusal != 0 {
-        return Solstice {
-            refusal: asked.refusal,
-            day: RegisterDay(0),
-            remainder: 0,
-        };
-    }
-    solar::solstice(asked.c, asked.n)
-}
-
-// Qi i of a year, i from 0 (the winter solstice) to 23.
+// Qi i of a year, i from 0 (the winter solstice) to 24 (that of the year after).
 pub fn qi(system: u32, year: u32, i: u32) -> Moment
     ensures { λ r. ⌜ r ≡ qiOf system year i ⌝ }
 {
-    let asked = asked::of_step(system, year, 23, i);
-    solar::answer(asked, 24, asked.c.units, i)
+    let asked = asked::of_step(system, year, 24, i);
+    steps::answer(asked, 24, asked.c.units, i)
 }
 
 // Pentad p of a year, p from 0 (the winter solstice) to 71.
@@ -77,7 +61,7 @@ pub fn pentad(system: u32, year: u32, p: u32) -> Moment
     ensures { λ r. ⌜ r ≡ pentadOf system year p ⌝ }
 {
     let asked = asked::of_step(system, year, 71, p);
-    solar::answer(asked, 72, asked.c.denominator, p)
+    steps::answer(asked, 72, asked.c.denominator, p)
 }
 
 // The months of a year.

@@ -1,7 +1,7 @@
 use mathlib.Core.Path.{_∙_}
 use borrow.Author.Tests.{eq-eqb, ne-eqb}
-use Rattle.reckoning.proofs.solar.answer.Statement.{statement}
-use Rattle.reckoning.proofs.solar.answer.Tie as tie
+use Rattle.reckoning.proofs.steps.answer.Statement.{statement}
+use Rattle.reckoning.proofs.steps.answer.Tie as tie
 
 returns : tie.Need-returns
 returns c = simp (ne-eqb _ 0 (c .if1 .taken))

@@ -1,8 +1,8 @@
 use native.Mathlib.Nat.{mod-lt}
 use native.Mathlib.Omega.{arith}
 use borrow.Author.Needs.{needs}
-use Rattle.reckoning.proofs.solar.rest.Statement.{statement}
-use Rattle.reckoning.proofs.solar.rest.Tie as tie
+use Rattle.reckoning.proofs.steps.rest.Statement.{statement}
+use Rattle.reckoning.proofs.steps.rest.Tie as tie
 
 rem-result : tie.Need-rem-result
 rem-result c = search needs

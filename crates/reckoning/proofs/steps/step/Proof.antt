@@ -1,6 +1,6 @@
 use borrow.Author.Needs.{needs}
-use Rattle.reckoning.proofs.solar.step.Statement.{statement}
-use Rattle.reckoning.proofs.solar.step.Tie as tie
+use Rattle.reckoning.proofs.steps.step.Statement.{statement}
+use Rattle.reckoning.proofs.steps.step.Tie as tie
 
 mul-moment : tie.Need-mul-moment
 mul-moment c = search needs

@@ -1,12 +1,11 @@
-// The solstice of one year, and its equal steps.
+// The equal steps of a year.
 ghost use mathlib.Core.Path.{_≡_};
 ghost use Prim.Native.Nat.{_%_, _^_, _<_};
-ghost use Rattle.reckoning.specs.Requests.{solsticeIn, noMoment, stepIn, answerTo};
-ghost use Rattle.reckoning.specs.WordBounds.{StepFits, YearInRegister};
+ghost use Rattle.reckoning.specs.Requests.{noMoment, stepIn, answerTo};
+ghost use Rattle.reckoning.specs.WordBounds.{StepFits};
 use crate::asked::Asked;
 use crate::closed_forms::register_day;
 use crate::data::Moment;
-use crate::data::Solstice;
 use calendar::data::Constants;
 use calendar::data::RegisterDay;
 
@@ -16,19 +15,6 @@ fn rest(x: u64, by: u64) -> u32
     ensures { λ r. ⌜ r ≡ x % by ⌝ }
 {
     (x % by) as u32
-}
-
-// The solstice of year n.
-pub(crate) fn solstice(c: Constants, n: u64) -> Solstice
-    requires { ⌜ YearInRegister c n ⌝ }
-    ensures { λ r. ⌜ r ≡ solsticeIn c n ⌝ }
-{
-    let t = n * c.year;
-    Solstice {
-        refusal: 0,
-        day: register_day(c, t / c.solar),
-        remainder: rest(t, c.solar),
-    }
 }
 
 // Step i of year n, of `steps` equal ones, in units of which a part has `units`, so that nothing is rounded.
