@@ -335,6 +335,21 @@ fn around_ten(tables: &Tables, checks: &mut Checks) {
 /// bits.
 const NO_SYSTEMS: [&str; 5] = ["0", "4", "259", "4294967297", "18446744073709551618"];
 
+/// Every request by system and year refuses what there is not, the system
+/// first.
+fn refused_by_year(checks: &mut Checks, request: &str, ask: impl Fn(&str, &str) -> Answer) {
+    for system in NO_SYSTEMS {
+        for year in ["1092", "0"] {
+            checks.same(&format!("{}, no such system", request), ask(system, year), Err(4));
+        }
+    }
+    for year in ["0", "3001", "66628", "4294968388", "18446744073709552708"] {
+        for system in ["1", "2", "3"] {
+            checks.same(&format!("{}, no such year", request), ask(system, year), Err(5));
+        }
+    }
+}
+
 /// The lines of one year's pentads, or the refusal.
 fn page_of(system: &str, year: &str) -> Answer {
     page(&Number::read(system).unwrap(), &Number::read(year).unwrap())
@@ -381,15 +396,7 @@ fn pages_of_pentads(checks: &mut Checks) {
     checks.same("Q-6, a qi on", jingchu[4].as_str(), "pentad 3 1807629 59 1563 33");
     checks.same("Q-6, a step back", jingchu[72].as_str(), "pentad 71 1807974 44 1481 25");
 
-    for system in NO_SYSTEMS {
-        checks.same("Q-4, no such system", page_of(system, "1092"), Err(4));
-        checks.same("Q-4, no such system", page_of(system, "0"), Err(4));
-    }
-    for year in ["0", "3001", "66628", "4294968388", "18446744073709552708"] {
-        for system in ["1", "2", "3"] {
-            checks.same("Q-4, no such year", page_of(system, year), Err(5));
-        }
-    }
+    refused_by_year(checks, "Q-4", page_of);
 }
 
 /// The pentad in force around those days, by hand, and around the first and the
@@ -457,15 +464,7 @@ fn told_heads(tables: &Tables, checks: &mut Checks) {
     ] {
         checks.same("Q-5, head", head_of(tables, system, year), one_line(line));
     }
-    for system in NO_SYSTEMS {
-        checks.same("Q-5, no such system", head_of(tables, system, "1092"), Err(4));
-        checks.same("Q-5, no such system", head_of(tables, system, "0"), Err(4));
-    }
-    for year in ["0", "3001", "66628", "4294968388", "18446744073709552708"] {
-        for system in ["1", "2", "3"] {
-            checks.same("Q-5, no such year", head_of(tables, system, year), Err(5));
-        }
-    }
+    refused_by_year(checks, "Q-5", |system, year| head_of(tables, system, year));
 }
 
 /// Years of Q-6 by hand: the solstice, N times 673,150 by 1,843; the new moon
