@@ -11,7 +11,6 @@ name=every_year request=year
 names=$(for ((i = 0, day = 36; i < 355; i++, day = day == 60 ? 1 : day + 1)); do echo $day; done | paste -sd ' ')
 written 3 237 << END
 year W 237 12 355
-solstice 1807614 44 1161
 qi 0 1807614 44 1161 0
 qi 1 1807629 59 1563 11
 qi 2 1807645 15 123 10
@@ -36,6 +35,7 @@ qi 20 1807919 49 4 4
 qi 21 1807934 4 407 3
 qi 22 1807949 19 810 2
 qi 23 1807964 34 1213 1
+qi 24 1807979 49 1616 0
 month 1 11 1807606 36 30
 month 2 12 1807636 6 29
 month 3 1 1807665 35 30

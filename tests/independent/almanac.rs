@@ -1,4 +1,4 @@
-//! The page of a year: solstice, qi, months and day names.
+//! The page of a year: qi, months and day names.
 
 use crate::lines::{moment_line, month_text};
 use crate::reckoning::{name_of, Month, Table, Tables};
@@ -15,8 +15,6 @@ fn accepted_page(table: &Table, number: i128) -> Vec<String> {
     let year = table.year(number);
     let (letter, months) = (table.system.letter, year.months.len());
     let mut lines = vec![format!("year {} {} {} {}", letter, number, months, year.length())];
-    let day = year.solstice_day;
-    lines.push(format!("solstice {} {} {}", day, name_of(day), year.solstice_remainder));
     lines.extend(year.qi.iter().enumerate().map(|(i, qi)| moment_line("qi", i, qi)));
     lines.extend(year.months.iter().enumerate().map(month_line));
     lines.push(format!("next {}", year.next_head));

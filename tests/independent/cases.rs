@@ -1,10 +1,11 @@
 //! The check of this program itself: the examples and the general facts of
 //! papers 01 and 02, with the papers' numbers written out.
 
+use crate::almanac;
 use crate::citation::{answer, store, Refusal, Stored};
 use crate::heads;
 use crate::lines::lines;
-use crate::pentads::{in_force_line, page, Pentads};
+use crate::pentads::{self, in_force_line, Pentads};
 use crate::reckoning::{
     name_of, Moment, Month, System, Table, Tables, Year, FIRST_YEAR, LAST_YEAR, SYSTEMS,
 };
@@ -36,6 +37,7 @@ pub fn run(tables: &Tables) -> Checks {
     examples(tables, &mut checks);
     days_with_qi_and_moon(tables, &mut checks);
     told_months(tables, &mut checks);
+    pages_of_years(tables, &mut checks);
     pages_of_pentads(&mut checks);
     pentads_in_force(&mut checks);
     told_heads(tables, &mut checks);
@@ -55,6 +57,7 @@ pub fn run(tables: &Tables) -> Checks {
         every_stored_form(tables, table, &mut checks);
         every_leap_mark(tables, table, &mut checks);
         every_told_month(tables, table, &mut checks);
+        every_qi(table, &mut checks);
         every_pentad(table, &mut checks);
         every_day_in_force(table, &mut checks);
         retired_cases::every_old_day(tables, table, &mut checks);
@@ -108,7 +111,13 @@ fn leap_numbers(year: &Year) -> Vec<u8> {
 /// the moon have the same parts.
 fn parts_to_solstice(system: &System, year: &Year) -> i128 {
     assert!(system.solar_parts_in_day == system.lunar_parts_in_day);
-    year.solstice.0 - year.months[0].new_moon.0
+    system.solstice(year.number).0 - year.months[0].new_moon.0
+}
+
+/// A year's solstice as the papers tell it: day, name and remainder.
+fn solstice_of(year: &Year) -> (i128, u8, i128) {
+    let Moment { day, parts, .. } = year.qi[0];
+    (day, name_of(day), parts)
 }
 
 /// The papers' examples 1 to 10, and the other places where paper 01 gives the
@@ -118,9 +127,7 @@ fn examples(tables: &Tables, checks: &mut Checks) {
     let jiyuan = tables.table(2).unwrap();
 
     let y = guantian.year(1092);
-    checks.same("1, day", y.solstice_day, 2119895);
-    checks.same("1, name", name_of(y.solstice_day), 25);
-    checks.same("1, remainder", y.solstice_remainder, 2_320);
+    checks.same("1", solstice_of(y), (2119895, 25, 2_320));
 
     let moon = y.months[0].new_moon;
     checks.same("2, parts before", parts_to_solstice(guantian.system, y), 28_067);
@@ -152,9 +159,7 @@ fn examples(tables: &Tables, checks: &mut Checks) {
     checks.same("6, the month before", (seventh.number, seventh.leap), (4, true));
 
     let y = jiyuan.year(1106);
-    checks.same("7, day", y.solstice_day, 2125008);
-    checks.same("7, name", name_of(y.solstice_day), 38);
-    checks.same("7, remainder", y.solstice_remainder, 4_536);
+    checks.same("7", solstice_of(y), (2125008, 38, 4_536));
 
     let moon = y.months[0].new_moon;
     checks.same("8, parts before", parts_to_solstice(jiyuan.system, y), 50_806);
@@ -217,7 +222,7 @@ fn days_with_qi_and_moon(tables: &Tables, checks: &mut Checks) {
     checks.that(-jiyuan.system.lunar_parts_in_month < before && before < 0, || {
         "Q-2: the first new moon of Jiyuan 1108 is not the next after its solstice".to_string()
     });
-    checks.same("Q-2, day of that new moon", y.months[0].head, y.solstice_day);
+    checks.same("Q-2, day of that new moon", y.months[0].head, y.qi[0].day);
 }
 
 /// Leap 5 of Guantian 1094, whose leap month is 4, and of Guantian 1092, which
@@ -350,9 +355,14 @@ fn refused_by_year(checks: &mut Checks, request: &str, ask: impl Fn(&str, &str) 
     }
 }
 
+/// The page of one year, or the refusal.
+fn page_of(tables: &Tables, system: &str, year: &str) -> Answer {
+    almanac::page(tables, &Number::read(system).unwrap(), &Number::read(year).unwrap())
+}
+
 /// The lines of one year's pentads, or the refusal.
-fn page_of(system: &str, year: &str) -> Answer {
-    page(&Number::read(system).unwrap(), &Number::read(year).unwrap())
+fn pentads_of(system: &str, year: &str) -> Answer {
+    pentads::page(&Number::read(system).unwrap(), &Number::read(year).unwrap())
 }
 
 /// The line of the pentad in force on one day, or the refusal.
@@ -365,29 +375,56 @@ fn one_line(line: &str) -> Answer {
     Ok(vec![line.to_string()])
 }
 
+/// The first and the last qi of a page by hand. Qi 0 is the solstice of
+/// cases 1 and 7 and of Q-6, and qi 24 is a year on: 365 days and 2,930, 1,776
+/// or 455 parts. Of 3000, qi 24 is the solstice of 3001, N times Y by D, and qi
+/// 0 is a year before it:
+/// - Guantian: 5,946,717 times 4,393,880 is 26,129,160,891,960, or 2,172,000,074
+///   days of 12,030 parts and 1,740 parts; the register has 2,169,182,929 less;
+/// - Jiyuan: 28,615,361 times 2,662,626 is 76,192,004,197,986, or 10,451,578,079
+///   days of 7,290 parts and 2,076 parts; the register has 10,448,760,934 less;
+/// - Jingchu: 6,809 times 673,150 is 4,583,478,350, or 2,486,966 days of 1,843
+///   parts and 12 parts; the register has 330,191 more.
+fn pages_of_years(tables: &Tables, checks: &mut Checks) {
+    for (system, year, first, last) in [
+        ("1", "1092", "qi 0 2119895 25 2320 0", "qi 24 2120260 30 5250 0"),
+        ("2", "1106", "qi 0 2125008 38 4536 0", "qi 24 2125373 43 6312 0"),
+        ("3", "237", "qi 0 1807614 44 1161 0", "qi 24 1807979 49 1616 0"),
+        ("1", "3000", "qi 0 2816779 9 10840 0", "qi 24 2817145 15 1740 0"),
+        ("2", "3000", "qi 0 2816780 10 300 0", "qi 24 2817145 15 2076 0"),
+        ("3", "3000", "qi 0 2816791 21 1400 0", "qi 24 2817157 27 12 0"),
+    ] {
+        let page = page_of(tables, system, year).unwrap();
+        checks.same("Q-8, qi 0", page[1].as_str(), first);
+        checks.same("Q-8, qi 24", page[25].as_str(), last);
+        checks.that(page[26].starts_with("month 1 11 "), || format!("Q-8, after qi 24: {}", page[26]));
+    }
+    refused_by_year(checks, "Q-8", |system, year| page_of(tables, system, year));
+}
+
 /// Pentads of Q-4 by hand. The solstices are those of cases 1 and 7 and of
 /// Q-6, and one step is added to them; a third pentad is a qi; the last is a
 /// step before the next solstice, which for Guantian 1093 is 365 days and 2,930
 /// parts on, and for Jingchu 238 is 365 days and 455 parts on.
 fn pages_of_pentads(checks: &mut Checks) {
-    let guantian = page_of("1", "1092").unwrap();
+    let guantian = pentads_of("1", "1092").unwrap();
     checks.same("Q-4, lines", guantian.len(), 73);
     checks.same("Q-4, first line", guantian[0].as_str(), "pentads G 1092");
     checks.same("Q-4, solstice", guantian[1].as_str(), "pentad 0 2119895 25 2320 0");
     checks.same("Q-4, a step on", guantian[2].as_str(), "pentad 1 2119900 30 3196 4");
     checks.same("Q-4, a qi on", guantian[4].as_str(), "pentad 3 2119910 40 4948 12");
     checks.same("Q-4, a step back", guantian[72].as_str(), "pentad 71 2120255 25 4373 32");
-    let summer = &page_of("1", "1094").unwrap()[37];
+    let summer = &pentads_of("1", "1094").unwrap()[37];
     checks.same("Q-4, summer solstice", summer.as_str(), "pentad 36 2120808 38 3630 0");
 
-    let jiyuan = page_of("2", "1106").unwrap();
+    let jiyuan = pentads_of("2", "1106").unwrap();
     checks.same("Q-4, lines", jiyuan.len(), 73);
     checks.same("Q-4, first line", jiyuan[0].as_str(), "pentads J 1106");
     checks.same("Q-4, solstice", jiyuan[1].as_str(), "pentad 0 2125008 38 4536 0");
     checks.same("Q-4, a step on", jiyuan[2].as_str(), "pentad 1 2125013 43 5066 55");
     checks.same("Q-4, a qi on", jiyuan[4].as_str(), "pentad 3 2125023 53 6128 45");
 
-    let jingchu = page_of("3", "237").unwrap();
+    let jingchu = pentads_of("3", "237").unwrap();
     checks.same("Q-6, lines", jingchu.len(), 73);
     checks.same("Q-6, first line", jingchu[0].as_str(), "pentads W 237");
     checks.same("Q-6, solstice", jingchu[1].as_str(), "pentad 0 1807614 44 1161 0");
@@ -396,7 +433,7 @@ fn pages_of_pentads(checks: &mut Checks) {
     checks.same("Q-6, a qi on", jingchu[4].as_str(), "pentad 3 1807629 59 1563 33");
     checks.same("Q-6, a step back", jingchu[72].as_str(), "pentad 71 1807974 44 1481 25");
 
-    refused_by_year(checks, "Q-4", page_of);
+    refused_by_year(checks, "Q-4", pentads_of);
 }
 
 /// The pentad in force around those days, by hand, and around the first and the
@@ -489,10 +526,9 @@ fn jingchu_years(tables: &Tables, checks: &mut Checks) {
     ] {
         let y = jingchu.year(year);
         let what = format!("Q-6, {}", year);
-        let of_solstice = (y.solstice_day, name_of(y.solstice_day), y.solstice_remainder);
         let moon = y.months[0].new_moon;
         let of_head = (y.head, name_of(y.head), jingchu.system.remainder_of_moon(moon));
-        checks.same(&what, (of_solstice, of_head), (solstice, head));
+        checks.same(&what, (solstice_of(y), of_head), (solstice, head));
         checks.same(&what, (y.months.len(), y.length()), (months, days));
     }
 }
@@ -622,8 +658,8 @@ fn nineteen_years(tables: &Tables, checks: &mut Checks) {
 
     for number in FIRST_YEAR..=LAST_YEAR {
         let y = jingchu.year(number);
-        let of_moon = jingchu.system.remainder_of_moon(y.months[0].new_moon);
-        let at_new_moon = y.head == y.solstice_day && y.solstice_remainder * 4_559 == of_moon * 1_843;
+        let (solstice, moon) = (&y.qi[0], jingchu.system.remainder_of_moon(y.months[0].new_moon));
+        let at_new_moon = y.head == solstice.day && solstice.parts * 4_559 == moon * 1_843;
         checks.that(at_new_moon == ((number - 239) % 19 == 0), || {
             format!("Q-6: the solstice of {} and the new moon", number)
         });
@@ -648,8 +684,27 @@ fn jingchu_remainders(tables: &Tables, checks: &mut Checks) {
     }
 }
 
-/// What Q-4 says of every year's pentads: the first is the solstice, every
-/// third is a qi, and the units told are fewer than make a part.
+/// What Q-8 says of every year's qi: 0 is the solstice, T by D, without small
+/// units; 24 is the next one and qi 0 of the year after, for 3000 too.
+fn every_qi(table: &Table, checks: &mut Checks) {
+    let system = table.system;
+    for number in FIRST_YEAR..=LAST_YEAR {
+        let say = |what: &str| format!("{} {}: {}", system.letter, number, what);
+        let solstice = |year| Moment {
+            day: system.solstice_day(year),
+            parts: system.solstice_remainder(year),
+            units: 0,
+        };
+        let qi = &table.year(number).qi;
+        checks.that(qi.len() == 25, || say("not qi 0 to 24"));
+        checks.that(qi[0] == solstice(number), || say("qi 0 is not the solstice"));
+        checks.that(qi[24] == solstice(number + 1), || say("qi 24 is not the next solstice"));
+        checks.that(qi[24] == table.year(number + 1).qi[0], || say("qi 24 is not the next qi 0"));
+    }
+}
+
+/// What Q-4 says of every year's pentads: every third is a qi, the first among
+/// them, and the units told are fewer than make a part.
 fn every_pentad(table: &Table, checks: &mut Checks) {
     let system = table.system;
     for number in FIRST_YEAR..=LAST_YEAR {
@@ -657,11 +712,6 @@ fn every_pentad(table: &Table, checks: &mut Checks) {
         let say = |what: &str| format!("{} {}: {}", system.letter, number, what);
         let pentads = system.pentads(number);
         checks.that(pentads.len() == 72, || say("not 72 pentads"));
-        let (first, remainder) = (&pentads[0], y.solstice_remainder);
-        checks.that(
-            first.day == y.solstice_day && first.parts == remainder && first.units == 0,
-            || say("pentad 0 is not the solstice"),
-        );
         for (third, qi) in pentads.iter().step_by(3).zip(&y.qi) {
             // The two fractions of a part, in pentad units and in small units.
             let pentad_over_both = third.units * system.small_units_in_part;
@@ -691,10 +741,10 @@ fn every_day_in_force(table: &Table, checks: &mut Checks) {
         let days = pair[1].day - pair[0].day;
         checks.that(days == 5 || days == 6, || say(pair[0].day));
     }
-    let first_day = table.year(FIRST_YEAR).solstice_day;
+    let first_day = table.year(FIRST_YEAR).qi[0].day;
     let mut day = first_day;
     for year in FIRST_YEAR..=LAST_YEAR {
-        let next_solstice = table.year(year + 1).solstice_day;
+        let next_solstice = table.year(year).qi[24].day;
         let mut starts: Vec<i128> = system.pentads(year).iter().map(|pentad| pentad.day).collect();
         starts.push(next_solstice);
         for (number, around) in starts.windows(2).enumerate() {
@@ -714,9 +764,9 @@ fn every_day_in_force(table: &Table, checks: &mut Checks) {
 /// The numbers of the months that hold the middle qi, in order.
 const IN_ORDER: [u8; 12] = [11, 12, 1, 2, 3, 4, 5, 6, 7, 8, 9, 10];
 
-/// The days of a year's twelve middle qi, in order.
+/// The days of a year's twelve middle qi, in order; qi 24 is of the year after.
 fn middle_days(year: &Year) -> Vec<i128> {
-    year.qi.iter().step_by(2).map(|qi| qi.day).collect()
+    year.qi[..24].iter().step_by(2).map(|qi| qi.day).collect()
 }
 
 /// What the papers say of months and years in general, for every year.
@@ -745,7 +795,7 @@ fn facts(table: &Table, checks: &mut Checks) {
         // The solstice's day is one of the first month's days, and each middle
         // qi's day is one of just one month's, which has the qi's number. No
         // middle qi of the years around falls on a day of this one.
-        checks.that(y.months[0].days().contains(&y.solstice_day), || say("the first month"));
+        checks.that(y.months[0].days().contains(&y.qi[0].day), || say("the first month"));
         for (day, due) in middle.iter().zip(IN_ORDER) {
             let holding: Vec<u8> =
                 y.months.iter().filter(|m| m.days().contains(day)).map(|m| m.number).collect();
@@ -876,13 +926,6 @@ fn carried_walk(table: &Table, checks: &mut Checks) {
     for number in FIRST_YEAR..=LAST_YEAR + 1 {
         let y = table.year(number);
         let say = |what: &str| format!("{} {}: {} by carried steps", system.letter, number, what);
-        checks.that(
-            solstice.register_day(system) == y.solstice_day
-                && solstice.parts as i128 == y.solstice_remainder
-                && solstice.units == 0,
-            || say("solstice"),
-        );
-
         let mut qi = solstice;
         let mut middle = Vec::new();
         for i in 0..24 {
@@ -892,6 +935,7 @@ fn carried_walk(table: &Table, checks: &mut Checks) {
             }
             qi.add(solar, qi_step);
         }
+        checks.that(qi.is_at(system, &y.qi[24]), || say("qi 24"));
         let mut next_solstice = solstice;
         next_solstice.add(solar, year_step);
         checks.that(qi == next_solstice, || say("24 qi steps do not close on the year"));

@@ -134,19 +134,15 @@ impl System {
         count_day + self.register_day_of_count_day_0
     }
 
-    /// The year's qi in order, the solstice first.
+    /// The year's qi in order: the solstice first and qi 24, which is all of Y
+    /// after it, last.
     fn qi(&self, year: i128) -> Vec<Moment> {
-        self.cut(year, QI, self.small_units_in_part)
+        (0..=QI).map(|i| self.step(year, i, QI, self.small_units_in_part)).collect()
     }
 
     /// The year's pentads in order, the solstice first.
     pub fn pentads(&self, year: i128) -> Vec<Moment> {
-        self.cut(year, PENTADS, self.pentad_units_in_part)
-    }
-
-    /// The moments at which so many equal steps of the year begin, in order.
-    fn cut(&self, year: i128, steps: i128, units_in_part: i128) -> Vec<Moment> {
-        (0..steps).map(|i| self.step(year, i, steps, units_in_part)).collect()
+        (0..PENTADS).map(|p| self.step(year, p, PENTADS, self.pentad_units_in_part)).collect()
     }
 
     /// The moment i equal steps after the solstice, of which the year has so
@@ -177,6 +173,7 @@ pub fn name_of(register_day: i128) -> u8 {
 
 /// The register day that a qi or a pentad falls on, and the solar parts and
 /// units of a part past its beginning.
+#[derive(PartialEq, Eq)]
 pub struct Moment {
     pub day: i128,
     pub parts: i128,
@@ -200,9 +197,6 @@ impl Month {
 
 pub struct Year {
     pub number: i128,
-    pub solstice: Solar,
-    pub solstice_day: i128,
-    pub solstice_remainder: i128,
     pub qi: Vec<Moment>,
     pub months: Vec<Month>,
     pub head: i128,
@@ -338,9 +332,6 @@ fn year_between(system: &System, number: i128, first_moon: Lunar, end_moon: Luna
     assert!(moon == end_moon);
     Year {
         number,
-        solstice: system.solstice(number),
-        solstice_day: system.solstice_day(number),
-        solstice_remainder: system.solstice_remainder(number),
         qi,
         months,
         head: system.day_of_moon(first_moon),

@@ -19,6 +19,7 @@ IN_USE = {"G": (1091, 1105), "J": (1106, 1135)}  # README.md tells by which sour
 # Year 3000 is left out: its last true month could only be numbered by the middle qi of the year after.
 OTHER_SPANS = ((1, 50), (2950, 2999), (1, 2999))
 HOUR = 1 / 24
+OF_SOLSTICE = "11"  # the number of the month that holds qi 0, the winter solstice
 
 Row = namedtuple("Row", "title in_use heads solstices numbers dates names delta_t hour_less hour_more")
 
@@ -30,6 +31,7 @@ def within(span, entries):
 def compare(letter, span, pages, moons):
     """One system's years beside the sky."""
     months = within(span, pages.months)
+    solstices = [qi for qi in within(span, pages.qi) if qi.number == OF_SOLSTICE]
     true = true_months([kaifeng.civil_day(moon) for moon in moons], pages.qi)
 
     def heads(later):
@@ -40,7 +42,7 @@ def compare(letter, span, pages, moons):
         title=f"{letter} {span[0]:4} to {span[1]:4}{', in use' if in_use else '':8}",
         in_use=in_use,
         heads=heads(0),
-        solstices=tally_days([one.day - kaifeng.solstice_day(one.year) for one in within(span, pages.solstices)]),
+        solstices=tally_days([qi.day - kaifeng.solstice_day(qi.year) for qi in solstices]),
         numbers=tally_numbers(months, true),
         dates=tally_citations(pages.months, within(span, true), by_date),
         names=tally_citations(pages.months, within(span, true), by_name),
