@@ -127,7 +127,7 @@ pub fn outside(table: &Table, out: &mut impl Write) -> io::Result<()> {
 }
 
 /// What the storing step can answer: 0, accepted, and the refusals in the order
-/// of its checks. 9 is of qi only.
+/// of its checks. 9 is of qi and pentads only.
 pub const ANSWERS: [u8; 11] = [0, 1, 2, 11, 3, 4, 5, 6, 10, 7, 8];
 
 /// How many records in ten are of the retired kind: in what is stored, and in
