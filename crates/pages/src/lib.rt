@@ -1,5 +1,5 @@
-// Pages for people: of a year, with its qi, its months, and the names of its days; of its pentads; and the
-// line of the pentad in force on a day.
+// Pages for people: of a year, with its qi, its months, and the names of its days; of its pentads; and the line of the
+// pentad in force on a day.
 //
 // Each is put into an output at a place, or the line of its refusal; where too few bytes are left there, the output and
 // the place stay as they are.

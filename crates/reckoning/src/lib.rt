@@ -1,5 +1,5 @@
-// The requests by system and year: qi, pentad, months, days, day sheet and head; one month; one day by its
-// ordinal; the date, the pentad in force and the name of a day.
+// The requests by system and year: qi, pentad, months, days, day sheet and head; one month; one day by its ordinal; the
+// date, the pentad in force and the name of a day.
 //
 // System, year, qi and pentad number come as 32 bits, so that no number is cut before it can be refused. A refused
 // request gives a blank answer that carries the refusal number, and with LEAP the number of the year's leap month.
