@@ -200,7 +200,7 @@
  * changed, a record that an earlier version stored can name another day or
  * none, and has to be stored anew, from the register day that was answered with
  * it. The third rises with what is told, as when a refusal gets a number of its
- * own, or the almanac a request.
+ * own, or a page of the almanac another line.
  *
  * Version 2.0 counts names from 1 and retires kind 2. A host that was built
  * with a header of 1.x cites by name in kind 2, which is refused now, and so

@@ -16,7 +16,7 @@ from pages import read_pages
 
 SYSTEMS = {"G": 1, "J": 2}  # not Jingchu: by document 000 its solstices are days behind the sky
 IN_USE = {"G": (1091, 1105), "J": (1106, 1135)}  # README.md tells by which source
-# Year 3000 is left out: its last true month could only be numbered by the middle qi of the year after.
+# Year 3000 is left out: its last true month could only be numbered by a middle qi of the year after, and none is read.
 OTHER_SPANS = ((1, 50), (2950, 2999), (1, 2999))
 HOUR = 1 / 24
 OF_SOLSTICE = "11"  # the number of the month that holds qi 0, the winter solstice

@@ -48,7 +48,7 @@ sheetNames sheet days = textsUpTo (nameAt sheet) days
 unfoldable pub namesLine : Sheet → ℕ → List ℕ
 namesLine sheet days = word (110 ∷ 97 ∷ 109 ∷ 101 ∷ 115 ∷ []) ++ (sheetNames sheet days ++ word (10 ∷ []))
 
--- The lines of a year that has these months and so many days, named on the sheet: with its qi from 0 to 24.
+-- The lines of a year that has these months and so many days, named on the sheet. Its qi are those from 0 to 24.
 unfoldable pub yearLines : ℕ → ℕ → Year → ℕ → Sheet → List ℕ
 yearLines system year months days sheet =
     yearLine system year (months .count) days

@@ -15,7 +15,7 @@ use Rattle.calendar.proofs.QiLaws.{qi-closes, qi-zero}
 use Rattle.calendar.proofs.PentadLaws.{every-third-told-alike}
 use Rattle.calendar.proofs.NameLaws.{names-agree}
 use Rattle.reckoning.specs.Scope.{InScope}
-use Rattle.reckoning.specs.ComputedRefusals.{yearRefusal, stepRefusal}
+use Rattle.reckoning.specs.ComputedRefusals.{stepRefusal}
 use Rattle.reckoning.specs.Divisions.{Division, qis, pentads}
 use Rattle.reckoning.specs.Asked.{askedOf}
 use Rattle.reckoning.specs.WordBounds.{StepFits, YearInRegister}
@@ -23,9 +23,9 @@ use Rattle.reckoning.specs.Requests.{momentIn, noMoment, stepIn, stepOf,
 use Rattle.reckoning.specs.Requests.{nameAt, noNames, sheetIn, noSheet, sheetOf}
 use Rattle.reckoning.specs.AnswerMeanings.{IsSolstice, IsMoment, IsQi, IsPentad, SameMoment, IsSheet}
 use Rattle.reckoning.proofs.FilledLaws.{filled-below, filled-past, filled-length}
-use Rattle.reckoning.proofs.RefusalCases.{in-scope, in-scope-step}
+use Rattle.reckoning.proofs.RefusalCases.{in-scope-step}
 use Rattle.reckoning.proofs.ScopeInRegister.{year-in-register}
-use Rattle.reckoning.proofs.AnswerUnless.{answered}
+use Rattle.reckoning.proofs.AnswerUnless.{answered, answered-year}
 use Rattle.reckoning.proofs.StepLaws.{Sound, qis-sound, pentads-sound, asked-fits}
 use Rattle.reckoning.proofs.RegisterLaws.{first-head, next-head, register-length-most}
 
@@ -88,12 +88,12 @@ module _ (system year : ℕ) (s : InScope system year) where
       })
 
   -- and qi 24 is qi 0 of the year after, to the last unit, be that year in scope or not.
-  closed : qi c n 24 ≡ qi c (yearsElapsed c (year + 1)) 0
-  closed = qi-closes c (consistent system) n ∙ ap (λ m. qi c m 0) (sym (one-a-year c (consistent system) year))
+  qi-24-closes : qi c n 24 ≡ qi c (yearsElapsed c (year + 1)) 0
+  qi-24-closes = qi-closes c (consistent system) n ∙ ap (λ m. qi c m 0) (sym (one-a-year c (consistent system) year))
 
   pub qi-24-is-next-qi-0 : IsQi c (yearsElapsed c (year + 1)) 0 (qiOf system year 24)
   qi-24-is-next-qi-0 =
-      subst (λ m. IsMoment c (c .units) m (qiOf system year 24)) closed (qi-holds 24 (omega arith))
+      subst (λ m. IsMoment c (c .units) m (qiOf system year 24)) qi-24-closes (qi-holds 24 (omega arith))
 
   pub pentad-holds : (p : ℕ) → p ≤ 71 → IsPentad c n p (pentadOf system year p)
   pentad-holds p h = step-holds pentads p h pentads-sound
@@ -115,7 +115,7 @@ module _ (system year : ℕ) (s : InScope system year) where
       let whole : long ≡ headOfYear c (n + 1) - headOfYear c n = omega arith in
       let most : long ≤ 384 = register-length-most c n r in
       subst (IsSheet c n)
-      (answered sheetIn noSheet (askedOf (yearRefusal system year) system year) _ refl (in-scope system year s))
+      (answered-year sheetIn noSheet system year s)
       (record {
         accepted = refl;
         span = span c (consistent system) n;
@@ -132,5 +132,5 @@ pub qi-24-answered-alike : (system year : ℕ) → InScope system year → InSco
 qi-24-answered-alike system year s next =
     let c = constantsOf system in
     sym (step-answered system year s qis 24 (omega arith))
-    ∙ ap (momentIn c (c .units)) (closed system year s)
+    ∙ ap (momentIn c (c .units)) (qi-24-closes system year s)
     ∙ step-answered system (year + 1) next qis 0 (omega arith)

@@ -1,4 +1,4 @@
--- What each request answers, for every input: paper 01, "Reckoning" and "Numbered refusals", and paper 02, Q-3 and Q-4.
+-- What each request answers, for every input: paper 01, "Reckoning" and "Numbered refusals", and paper 02, Q-3, Q-4 and Q-8.
 use Prim.Native.Nat.{ℕ, _+_, _-_, _/_, _%_}
 use mathlib.Core.Bool.{cond}
 use mathlib.Core.List.{List}

@@ -25,10 +25,10 @@ yearRows system year = SYSTEM when (SystemInScope system → ⊥) ∷ YEAR when 
 abbrev pub stepRows : ℕ → ℕ → ℕ → ℕ → List Row
 stepRows most system year i = yearRows system year ++ (STEP when (most < i) ∷ [])
 
--- a qi,
+-- a qi, 0 to 24 (paper 02, Q-8),
 abbrev pub qiRows : ℕ → ℕ → ℕ → List Row
 qiRows system year i = stepRows 24 system year i
 
--- or a pentad.
+-- or a pentad, 0 to 71 (Q-4).
 abbrev pub pentadRows : ℕ → ℕ → ℕ → List Row
 pentadRows system year p = stepRows 71 system year p
