@@ -16,7 +16,7 @@ use Rattle.framing.specs.Buffer.{atFront}
 use Rattle.framing.specs.Run.{stops, turnBy}
 use Rattle.framing.proofs.Rest.{rest-shorter, rest-is}
 use Rattle.framing.proofs.Stepping.{left-short}
-use Rattle.lines.specs.Program.{linesOf, endingOf, progressOf, portionOf, linesInto, LinesPut}
+use Rattle.lines.specs.Program.{linesOf, endingOf, progressOf, portionOf, LinesPut}
 use Rattle.lines.proofs.AllRecords.{all-records, lines-short}
 use Rattle.chiselbrow_run.specs.Turn.{turnText, turnOf, Turned}
 
@@ -58,7 +58,7 @@ module _ (ended : Bool) (s before m : List ℕ) (p : Progress) (room : 16 * leng
       let short = lines-short s in
       let start : 0 + length lines ≡ length lines = omega arith in
       record {
-        is = lines-put .output ∙ ap (λ q. linesInto q before) all-taken ∙ ap (λ n. lines ++ drop n before) (sym start);
+        is = lines-put .output ∙ ap (λ q. atFront (q .text) before) all-taken ∙ ap (λ n. lines ++ drop n before) (sym start);
         ends = written-is ∙ sym start;
         fits = omega (arith, written-is);
         same-length = lines-put .same-length;

@@ -10,9 +10,10 @@ use Rattle.calendar.proofs.Rising.{by-order}
 use Rattle.text.specs.Wrote.{Wrote}
 use Rattle.text.proofs.Writing.{wrote-front, wrote-back}
 use Rattle.framing.specs.Framing.{framing}
+use Rattle.framing.specs.Buffer.{atFront}
 use Rattle.framing.proofs.Framed.{Next, next-is, next-none}
 use Rattle.lines.specs.Line.{lineOf}
-use Rattle.lines.specs.Program.{noPortion, portionThen, portionOf, nextWithRoom, progressOf, linesInto, LinesPut}
+use Rattle.lines.specs.Program.{noPortion, portionThen, portionOf, nextWithRoom, progressOf, LinesPut}
 use Rattle.lines.proofs.Cutting.{portion-full, portion-none, portion-more}
 
 -- Where a record is next, 64 bytes of output are.
@@ -90,10 +91,10 @@ module _ (s out before : List ℕ) (read written : ℕ) (so-far : SoFar s (lengt
   progress-is h =
       sym (ap progressOf all-taken ∙ ap (λ n. record { read = read; written = n }) (length-take-le written out h))
 
-  output-is : written ≤ length out → drop written out ≡ drop written before → out ≡ linesInto (portionOf s (length before)) before
+  output-is : written ≤ length out → drop written out ≡ drop written before → out ≡ atFront (portionOf s (length before) .text) before
   output-is h rest =
       sym
-      (ap (λ p. linesInto p before) all-taken
+      (ap (λ p. atFront (p .text) before) all-taken
       ∙ ap (λ n. take written out ++ drop n before) (length-take-le written out h)
       ∙ ap (λ t. take written out ++ t) (sym rest)
       ∙ take-append-drop written out)

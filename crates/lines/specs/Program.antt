@@ -4,9 +4,10 @@ use mathlib.Core.Path.{_≡_}
 use mathlib.Core.Bool.{cond}
 use mathlib.Core.List.{List, [], _∷_, _++_}
 use lib.Dec.{leb, eqb}
-use lib.ListN.{length, drop}
+use lib.ListN.{length}
 use Rattle.reckoning.specs.RefusalNumbers.{SHORT}
 use Rattle.framing.specs.Framing.{framing, nextOf}
+use Rattle.framing.specs.Buffer.{atFront}
 use Rattle.framing.specs.Run.{Writer, textOf}
 use Rattle.lines.specs.declared.buffer.Progress.{Progress}
 use Rattle.text.specs.Piece.{refusedLine}
@@ -57,13 +58,10 @@ nextWithRoom s at size = cond (leb 64 size) (nextOf s at) 0
 abbrev pub progressOf : Portion → Progress
 progressOf p = record { read = p .read; written = length (p .text) }
 
--- and the output, with the lines from its start on and the rest left.
-abbrev pub linesInto : Portion → List ℕ → List ℕ
-linesInto p before = p .text ++ drop (length (p .text)) before
-
+-- and the output, with the lines at its front and the rest left.
 pub record LinesPut (s before after : List ℕ) (r : Progress) : Type 0 where
   pub progress : r ≡ progressOf (portionOf s (length before))
-  pub output : after ≡ linesInto (portionOf s (length before)) before
+  pub output : after ≡ atFront (portionOf s (length before) .text) before
   -- what a caller needs to go on
   pub read-within : r .read ≤ length s
   pub written-within : r .written ≤ length after

@@ -12,10 +12,19 @@ use Rattle.pages.specs.declared.steps.Steps.the-variants.{Qi, Pentads}
 abbrev pub momentNumbers : ℕ → Moment → List ℕ
 momentNumbers i m = i ∷ m .day .0 ∷ nameOf (m .day .0) ∷ m .parts ∷ m .units ∷ []
 
--- "qi" or "pentad", and step i of a year.
+-- The word before it, "qi" or "pentad",
+abbrev pub stepWord : Steps → List ℕ
+stepWord Qi = 113 ∷ 105 ∷ []
+stepWord Pentads = 112 ∷ 101 ∷ 110 ∷ 116 ∷ 97 ∷ 100 ∷ []
+
+-- and the step of a year that it tells.
+abbrev pub stepTold : Steps → ℕ → ℕ → ℕ → Moment
+stepTold Qi system year i = qiOf system year i
+stepTold Pentads system year i = pentadOf system year i
+
+-- The line of step i.
 unfoldable pub stepLine : Steps → ℕ → ℕ → ℕ → List ℕ
-stepLine Qi system year i = line (113 ∷ 105 ∷ []) (momentNumbers i (qiOf system year i))
-stepLine Pentads system year i = line (112 ∷ 101 ∷ 110 ∷ 116 ∷ 97 ∷ 100 ∷ []) (momentNumbers i (pentadOf system year i))
+stepLine steps system year i = line (stepWord steps) (momentNumbers i (stepTold steps system year i))
 
 -- So many steps of a year, from the first on.
 unfoldable pub stepLines : Steps → ℕ → ℕ → ℕ → List ℕ

@@ -1,4 +1,4 @@
--- Equal steps of a year: the code's numbers fit.
+-- Equal steps of a year: the code's numbers fit, and what it answers.
 use Prim.Native.Nat.{ℕ, _+_, _*_, _^_, _≤_, _<_}
 use mathlib.Core.Path.{_≡_, sym, ap, _∙_}
 use native.Mathlib.Nat.{mul-le-mul, mul-le-mul-right, mul-pos, lt-of-le-of-lt}
@@ -10,9 +10,11 @@ use Rattle.calendar.specs.Steps.{solstice, DividesYear, moment}
 use Rattle.calendar.specs.Consistent.{Consistent}
 use Rattle.calendar.proofs.Steps.{steps-close, moments-rise, steps-in-year}
 use Rattle.reckoning.specs.declared.asked.Asked.{Asked}
+use Rattle.reckoning.specs.declared.data.Moment.{Moment}
 use Rattle.reckoning.specs.ComputedRefusals.{stepRefusal}
 use Rattle.reckoning.specs.Divisions.{Division, qis, pentads}
 use Rattle.reckoning.specs.Asked.{askedOf}
+use Rattle.reckoning.specs.Requests.{answerTo, noMoment, stepIn, stepOf}
 use Rattle.reckoning.specs.WordBounds.{ConstantsFit, StepFits, LastStepFits, YearInRegister}
 use Rattle.reckoning.proofs.RefusalCases.{accepted-step}
 use Rattle.reckoning.proofs.AnswerUnless.{asked-in-register}
@@ -101,3 +103,12 @@ asked-fits division sound system year i {asked} e accepted =
     (sound .units-small (asked .c) fit)
     (sound .next-small (asked .c) (asked .n) r)
     (omega (arith, s .1, sound .last-inside))
+
+-- What is answered to what is asked is the step.
+pub answers-step : (division : Division) (system year i : ℕ) {asked : Asked} {v : Moment}
+    → asked ≡ askedOf (stepRefusal (division .last) system year i) system year
+    → v ≡ answerTo asked (stepIn (division .steps) (division .units (asked .c)) i) noMoment
+    → v ≡ stepOf division system year i
+unfolding stepOf
+answers-step division system year i e is =
+    is ∙ ap (λ a. answerTo a (stepIn (division .steps) (division .units (a .c)) i) noMoment) e

@@ -1,7 +1,5 @@
-use mathlib.Core.Path.{ap, _∙_}
 use Rattle.reckoning.specs.Divisions.{pentads}
-use Rattle.reckoning.specs.Requests.{noMoment, stepIn, answerTo, stepOf}
-use Rattle.reckoning.proofs.StepLaws.{pentads-sound, asked-fits}
+use Rattle.reckoning.proofs.StepLaws.{pentads-sound, asked-fits, answers-step}
 use borrow.Author.Needs.{needs}
 use Rattle.reckoning.proofs.pentad.Statement.{statement}
 use Rattle.reckoning.proofs.pentad.Tie as tie
@@ -13,10 +11,7 @@ answer-requires : tie.Need-answer-requires
 answer-requires c κs = asked-fits pentads pentads-sound _ _ _ (c .of-step .ensures)
 
 returns : tie.Need-returns
-unfolding stepOf
-returns c =
-    let asked = c .before in
-    c .answer .ensures ∙ ap (λ a. answerTo a (stepIn 72 (a .c .denominator) (asked .before .args .p)) noMoment) (asked .of-step .ensures)
+returns c = answers-step pentads _ _ _ (c .before .of-step .ensures) (c .answer .ensures)
 
 pub pentad-spec : {M : Type 1} → statement M
 pentad-spec = tie.close (tie.spec of-step-requires answer-requires returns)

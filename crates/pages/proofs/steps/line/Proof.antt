@@ -1,5 +1,6 @@
 use native.Mathlib.Omega.{arith}
-use Rattle.pages.proofs.StepText.{wrote-qi, wrote-pentad}
+use Rattle.pages.proofs.StepText.{wrote-step}
+use Rattle.pages.specs.declared.steps.Steps.the-variants.{Qi, Pentads}
 use borrow.Author.Needs.{needs}
 use Rattle.pages.proofs.steps.line.Statement.{statement}
 use Rattle.pages.proofs.steps.line.Tie as tie
@@ -47,7 +48,7 @@ returns : tie.Need-returns
 returns c =
     let written = c .before .before in
     let told = written .before .before .before .before in
-    wrote-qi _ _ _ _ (told .before .before .enum-told .given .1) (told .before .qi .ensures) (told .numbers .ensures) (written .line .ensures)
+    wrote-step _ Qi _ _ _ (told .before .before .enum-told .given .1) (told .before .qi .ensures) (told .numbers .ensures) (written .line .ensures)
     (omega arith)
     (omega arith)
 
@@ -58,7 +59,7 @@ returns-2 : tie.Need-returns-2
 returns-2 c =
     let written = c .before .before in
     let told = written .before .before .before .before in
-    wrote-pentad _ _ _ _ (told .before .before .enum-told2 .given .1) (told .before .pentad .ensures) (told .numbers3 .ensures) (written .line2 .ensures)
+    wrote-step _ Pentads _ _ _ (told .before .before .enum-told2 .given .1) (told .before .pentad .ensures) (told .numbers3 .ensures) (written .line2 .ensures)
     (omega arith)
     (omega arith)
 
