@@ -21,6 +21,8 @@ pub mod Spans
 pub mod Numbers
 -- The laws of months and years, in the paper's words.
 pub mod Laws
+-- New moons with their remainders; the middle qi that months hold, by index.
+pub mod HeldQi
 -- The leap month of a year, found.
 pub mod LeapMonths
 -- The pentads, as equal steps; which of them is in force on a day.

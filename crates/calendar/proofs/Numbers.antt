@@ -43,10 +43,10 @@ module _ (c : Constants) (ok : Consistent c) where
       }
 
   -- The number that a month bears is the closed form's, and no other.
-  number-of-lacking : (k : ℕ) → Lacks c (k + 1) → monthNumber c (k + 1) ≡ monthNumber c k
+  pub number-of-lacking : (k : ℕ) → Lacks c (k + 1) → monthNumber c (k + 1) ≡ monthNumber c k
   number-of-lacking k l = ap (λ g. numberOf (g % 12)) (qi-of-lacking K k (λ h. l (holds-of-held (k + 1) h)))
 
-  number-of-held : {k : ℕ} (h : HoldsSome c k) → numberOf (h .index) ≡ monthNumber c k
+  pub number-of-held : {k : ℕ} (h : HoldsSome c k) → numberOf (h .index) ≡ monthNumber c k
   number-of-held {k} h =
       let g = 12 * h .year + h .index in
       let e : g ≡ qiOfMonth c k = qi-of-held K g k (month-of-held k (h .year) (h .index) (h .holds)) in

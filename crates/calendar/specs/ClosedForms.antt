@@ -1,11 +1,11 @@
 -- The functions by which the code reckons, beside `monthHead`. `/` is whole division throughout.
 use Prim.Native.Nat.{ℕ, _+_, _*_, _-_, _/_, _%_}
-use mathlib.Core.Bool.{Bool}
-use lib.Dec.{ltb}
+use mathlib.Core.Bool.{Bool, cond}
+use lib.Dec.{ltb, eqb}
 use Rattle.calendar.specs.declared.data.Constants.{Constants}
 use Rattle.calendar.specs.declared.data.RegisterDay.{RegisterDay}
 use Rattle.calendar.specs.Systems.{registerDay}
-use Rattle.calendar.specs.Month.{monthHead, numberOf}
+use Rattle.calendar.specs.Month.{monthHead, numberOf, noneHeld}
 
 -- The month that has day d: the last whose head is d or earlier. With lunar parts, k M / D ≤ d just when
 -- k M ≤ (d + 1) D - 1.
@@ -64,6 +64,14 @@ monthNumber c k = numberOf (qiOfMonth c k % 12)
 -- The leap mark of month k: how far it lies behind the month that holds that middle qi, 0 or 1.
 abbrev pub leapMark : Constants → ℕ → ℕ
 leapMark c k = k - monthOfQi c (qiOfMonth c k)
+
+-- What is told of the middle qi that a month holds, by the month's leap mark and its last middle qi: the qi's index in
+-- its year; of a leap month, that it holds none.
+abbrev pub heldBy : ℕ → ℕ → ℕ
+heldBy mark g = cond (eqb mark 0) (g % 12) noneHeld
+
+abbrev pub heldIndex : Constants → ℕ → ℕ
+heldIndex c k = heldBy (leapMark c k) (qiOfMonth c k)
 
 -- The middle qi of year n that gives a month a number: `numberOf` inverted, and counted from the epoch.
 abbrev pub qiOfNumber : ℕ → ℕ → ℕ

@@ -1,7 +1,10 @@
 -- Months: their days, the middle qi that they hold, their numbers and leap marks. Month k begins with mean new moon k.
-use Prim.Native.Nat.{ℕ, _+_, _*_, _-_, _/_, _%_, _≤_, _<_}
+use Prim.Native.Nat.{ℕ, zero, suc, _+_, _*_, _-_, _/_, _%_, _≤_, _<_}
 use mathlib.Core.Path.{_≡_}
 use mathlib.Core.Logic.{_⊎_}
+use mathlib.Core.Bool.{cond}
+use mathlib.Core.List.{List, [], _∷_, _++_}
+use lib.Dec.{eqb}
 use Rattle.calendar.specs.declared.data.Constants.{Constants}
 use Rattle.calendar.specs.Steps.{dayOf}
 use Rattle.calendar.specs.Qi.{qi}
@@ -13,6 +16,10 @@ newMoon c k = k * c .month
 -- A month's head is its first day: the new moon's count day.
 abbrev pub monthHead : Constants → ℕ → ℕ
 monthHead c k = newMoon c k / c .lunar
+
+-- Paper 02, Q-9, the new moon's remainder: what is left after whole days, in the moon's parts.
+abbrev pub newMoonRemainder : Constants → ℕ → ℕ
+newMoonRemainder c k = newMoon c k % c .lunar
 
 -- Reckoning, the days of month k: from the day of its new moon on, and before that of the next.
 abbrev pub InMonth : Constants → ℕ → ℕ → Type 0
@@ -57,3 +64,16 @@ pub data Bears (c : Constants) : ℕ → ℕ → Type 0 where
 -- The leap mark of month k: 1 if it lacks a middle qi, 0 if it holds one.
 abbrev pub Marked : Constants → ℕ → ℕ → Type 0
 Marked c k mark = ((mark ≡ 0) × HoldsSome c k) ⊎ ((mark ≡ 1) × Lacks c k)
+
+-- Paper 02, Q-9, the mark that a month holds no middle qi: no index is so large.
+abbrev pub noneHeld : ℕ
+noneHeld = 255
+
+-- What is told of the middle qi of year n that month k holds: its index, 0 to 11; the mark if the month lacks one.
+abbrev pub HeldTold : Constants → ℕ → ℕ → ℕ → Type 0
+HeldTold c n k told = ((told < 12) × Holds c k n told) ⊎ ((told ≡ noneHeld) × Lacks c k)
+
+-- The indexes that are told of so many months, in order; months that hold none are passed over.
+unfoldable pub indexesTold : (ℕ → ℕ) → ℕ → List ℕ
+indexesTold told zero = []
+indexesTold told (suc i) = indexesTold told i ++ cond (eqb (told i) noneHeld) [] (told i ∷ [])

@@ -1,5 +1,5 @@
--- The proved examples of paper 01 as paper 02, Q-2, has them, and those of Q-3, Q-4, Q-6, Q-7 and Q-8: one statement
--- over a table, computed.
+-- The proved examples of paper 01 as paper 02, Q-2, has them, and those of Q-3, Q-4 and Q-6 to Q-9: one statement over
+-- a table, computed.
 use Prim.Native.Nat.{ℕ, _+_, _*_, _-_, _^_, _/_, _%_}
 use mathlib.Core.Path.{_≡_, refl}
 use mathlib.Core.List.{List, [], _∷_, _++_, map}
@@ -17,7 +17,7 @@ use Rattle.reckoning.specs.ComputedRefusals.{yearRefusal, stepRefusal}
 use Rattle.reckoning.specs.Requests.{stepOf, qiOf, pentadOf, inForceIn, pentadInForce, yearOf, monthsFrom}
 use Rattle.reckoning.specs.Requests.{ordinalDayOf, ordinalDayIn, monthOf, monthIn, dateOf, dateIn}
 use Rattle.citation.specs.Store.{judgeRegisterDay, judgeOrdinal, judgeDay, judgeName, judgeKind, lengthRight, judgeOf, refusalOf, toldOf, answerOf, storedInto}
-use Rattle.reckoning.specs.YearValue.{headIn, numberIn, leapIn}
+use Rattle.reckoning.specs.YearValue.{headIn, numberIn, leapIn, remainderIn, heldIn}
 
 pub data Question : Type 0 where
   -- the day, name and remainder of a year's first new moon; before them, where solar and lunar parts are one, how many
@@ -39,6 +39,8 @@ pub data Question : Type 0 where
   -- a month by its place from 1: its number and leap mark; its head and days
   Number : ℕ → ℕ → ℕ → Question
   Month : ℕ → ℕ → ℕ → Question
+  -- what is told beside it: its new moon's remainder, and the index of the middle qi that it holds, 255 for none
+  Beside : ℕ → ℕ → ℕ → Question
   -- a citation, with an output of ten bytes or of nine: its refusal and the month told; the answer to C; its stored
   -- record
   Refusal : List ℕ → Question
@@ -48,10 +50,8 @@ pub data Question : Type 0 where
 
 firstMoon : ℕ → ℕ → List ℕ
 firstMoon system year =
-    let c = constantsOf system in
-    let moon = newMoon c (firstMonth c (yearsElapsed c year)) in
-    let head = headIn (yearOf system year) 0 in
-    head ∷ (nameOf head) ∷ (moon % c .lunar) ∷ []
+    let v = yearOf system year in
+    (headIn v 0) ∷ (nameOf (headIn v 0)) ∷ (remainderIn v 0) ∷ []
 
 told : Moment → List ℕ
 told v = (v .refusal) ∷ (v .day .0) ∷ (nameOf (v .day .0)) ∷ (v .parts) ∷ (v .units) ∷ []
@@ -78,6 +78,8 @@ answer (Number system year place) =
     let v = yearOf system year in (numberIn v (place - 1)) ∷ (leapIn v (place - 1)) ∷ []
 answer (Month system year place) =
     let v = yearOf system year in (headIn v (place - 1)) ∷ (headIn v place - headIn v (place - 1)) ∷ []
+answer (Beside system year place) =
+    let v = yearOf system year in (remainderIn v (place - 1)) ∷ (heldIn v (place - 1)) ∷ []
 answer (Refusal s) = refusalOf s 10 ∷ toldOf s ∷ []
 answer (RefusalOfNine s) = refusalOf s 9 ∷ toldOf s ∷ []
 answer (Answer s) = answerOf s 10 ∷ []
@@ -276,6 +278,29 @@ table =
     ∷ (Qi 4 0 25 gives (4 ∷ 0 ∷ 50 ∷ 0 ∷ 0 ∷ []))
     ∷ (Qi 1 0 25 gives (5 ∷ 0 ∷ 50 ∷ 0 ∷ 0 ∷ []))
     ∷ (Qi 1 3000 25 gives (9 ∷ 0 ∷ 50 ∷ 0 ∷ 0 ∷ []))
+    -- Q-9: leap 4 of Guantian 1094 holds no middle qi; the month after it holds middle qi 6, which is qi 12, 76 parts
+    -- before its new moon on one day; new moons are 29 days and 6,383 parts apart; the next year's head has nothing
+    -- beside it
+    ∷ (Qi 1 1094 12 gives (0 ∷ 2_120_808 ∷ 38 ∷ 3630 ∷ 0 ∷ []))
+    ∷ (Beside 1 1094 6 gives (2970 ∷ 5 ∷ []))
+    ∷ (Beside 1 1094 7 gives (9353 ∷ 255 ∷ []))
+    ∷ (Beside 1 1094 8 gives (3706 ∷ 6 ∷ []))
+    ∷ (Beside 1 1094 13 gives (11_561 ∷ 11 ∷ []))
+    ∷ (Beside 1 1094 14 gives (0 ∷ 255 ∷ []))
+    -- leap 10 of Jiyuan 1107 is its last month, twelve of 29 days and 3,868 parts after the first
+    ∷ (Beside 2 1107 1 gives (146 ∷ 0 ∷ []))
+    ∷ (Beside 2 1107 12 gives (6244 ∷ 11 ∷ []))
+    ∷ (Beside 2 1107 13 gives (2822 ∷ 255 ∷ []))
+    ∷ (Beside 2 1107 14 gives (0 ∷ 255 ∷ []))
+    -- Jingchu's are the moon's parts, 4,559 to a day, and rise by 29 days and 2,419 parts; of twelve months the
+    -- thirteenth place has the next year's head
+    ∷ (Beside 3 237 1 gives (3915 ∷ 0 ∷ []))
+    ∷ (Beside 3 237 2 gives (1775 ∷ 1 ∷ []))
+    ∷ (Beside 3 237 12 gives (3170 ∷ 11 ∷ []))
+    ∷ (Beside 3 237 13 gives (0 ∷ 255 ∷ []))
+    -- refused
+    ∷ (Beside 4 1094 1 gives (0 ∷ 255 ∷ []))
+    ∷ (Beside 1 3001 1 gives (0 ∷ 255 ∷ []))
     ∷ []
 
 pub examples : map asked table ≡ map expected table

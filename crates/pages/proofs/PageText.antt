@@ -1,29 +1,35 @@
 -- The text of a page from its pieces.
 use Prim.Native.Nat.{ℕ, _+_, _*_, _-_, _≤_, _<_}
-use mathlib.Core.Path.{_≡_, ap, ap₂}
+use mathlib.Core.Path.{_≡_, refl, subst, ap, ap₂}
+use mathlib.Core.Bool.{Bool}
 use mathlib.Core.List.{List, [], _∷_, _++_}
 use native.Mathlib.Omega.{arith}
+use lib.Dec.{eqb}
 use lib.ListN.{length}
 use Rattle.calendar.specs.SixtyDayName.{nameOf}
+use Rattle.calendar.specs.Month.{noneHeld}
 use Rattle.reckoning.specs.declared.data.Days.{Days}
 use Rattle.reckoning.specs.declared.data.Sheet.{Sheet}
 use Rattle.reckoning.specs.declared.data.Year.{Year}
 use Rattle.reckoning.specs.Requests.{yearOf, sheetOf, daysOf}
-use Rattle.reckoning.specs.YearValue.{headIn, numberIn, leapIn}
-use Rattle.text.specs.Piece.{word, year, month, numbered, line, refusedLine, textsUpTo}
+use Rattle.reckoning.specs.YearValue.{headIn, numberIn, leapIn, remainderIn, heldIn}
+use Rattle.text.specs.Piece.{word, field, year, month, numbered, line, lastField, refusedLine, textsUpTo}
 use Rattle.text.specs.Put.{Put}
 use Rattle.text.specs.Wrote.{Wrote}
 use Rattle.text.proofs.Writing.{wrote-as, wrote-then, wrote-one-more}
-use Rattle.text.proofs.Putting.{Puts, put-wrote, put-refusal, wrote-told}
+use Rattle.text.proofs.Putting.{Puts, put-wrote, put-then, put-three, all-put, put-refusal, wrote-told}
+use Rattle.pages.specs.declared.lunar.ToldMonth.{ToldMonth}
 use Rattle.pages.specs.declared.steps.Steps.the-variants.{Qi}
 use Rattle.pages.specs.StepLines.{stepLines}
-use Rattle.pages.specs.Page.{yearLine, monthLine, monthLines, nextLine}
+use Rattle.pages.specs.Page.{yearLine, toldMonth, monthStart, monthLine, monthLines, nextLine}
 use Rattle.pages.specs.Page.{lunarLines, nameAt, sheetNames, namesLine, monthAt, yearLines, pageOf}
 
 -- A loop's texts, one more and all.
-pub wrote-month-more : {b m a : List ℕ} {at p e : ℕ} (months : Year) (i : ℕ) → Wrote b at (textsUpTo (monthAt months) i) m p
-    → Wrote m p (monthAt months i) a e → Wrote b at (textsUpTo (monthAt months) (i + 1)) a e
-wrote-month-more months i w v = wrote-one-more (monthAt months) i w v
+pub wrote-month-more : {b m a : List ℕ} {at p e : ℕ} {month : ToldMonth} (months : Year) (i : ℕ) → month ≡ toldMonth months i
+    → Wrote b at (textsUpTo (monthAt months) i) m p
+    → Wrote m p (monthLine month) a e
+    → Wrote b at (textsUpTo (monthAt months) (i + 1)) a e
+wrote-month-more months i is w v = wrote-one-more (monthAt months) i w (wrote-as (ap monthLine is) v)
 
 pub wrote-name-more : {b m a : List ℕ} {start p e : ℕ} (sheet : Sheet) (count i : ℕ)
     → Wrote b start (textsUpTo (nameAt sheet) i) m p
@@ -56,25 +62,53 @@ module _ {b a : List ℕ} {at e rooms : ℕ} where
   unfolding yearLine
   put-year-line system n months days w = w
 
-  pub put-month-line : (place number leap head name days : ℕ)
-      → Puts b at rooms
-      (numbered (109 ∷ 111 ∷ 110 ∷ 116 ∷ 104 ∷ []) place ++ (month number leap ++ line [] (head ∷ name ∷ days ∷ []))) a e
-      → Puts b at rooms (monthLine place number leap head name days) a e
-  unfolding monthLine
-  put-month-line place number leap head name days w = w
-
   pub put-next : (months : Year)
       → Puts b at rooms (line (110 ∷ 101 ∷ 120 ∷ 116 ∷ []) (headIn months (months .count) ∷ [])) a e
       → Puts b at rooms (nextLine months) a e
   unfolding nextLine
   put-next months w = w
 
-pub wrote-month-at : {b a : List ℕ} {at e name : ℕ} (months : Year) (i : ℕ) → name ≡ nameOf (headIn months i)
-    → Wrote b at
-    (monthLine (i + 1) (numberIn months i) (leapIn months i) (headIn months i) name (headIn months (i + 1) - headIn months i)) a e
-    → Wrote b at (monthAt months i) a e
-unfolding monthAt
-wrote-month-at months i is w = rw is at w
+-- What is told of a month, its name by its head;
+pub told-named : {name : ℕ} (months : Year) (i : ℕ) → name ≡ nameOf (headIn months i)
+    → record {
+      place = i + 1;
+      number = numberIn months i;
+      leap = leapIn months i;
+      head = headIn months i;
+      name = name;
+      days = headIn months (i + 1) - headIn months i;
+      remainder = remainderIn months i;
+      held = heldIn months i;
+    } ≡ toldMonth months i
+unfolding toldMonth
+told-named months i is = rw is
+
+-- and its line, in two parts.
+pub put-month-start : {b m₁ m₂ m₃ a : List ℕ} {at p₁ p₂ p₃ e : ℕ} (m : ToldMonth)
+    → Put b at 16 (numbered (109 ∷ 111 ∷ 110 ∷ 116 ∷ 104 ∷ []) (m .place)) m₁ p₁
+    → Put m₁ p₁ 12 (month (m .number) (m .leap)) m₂ p₂
+    → Put m₂ p₂ 11 (field (m .head)) m₃ p₃
+    → Put m₃ p₃ 11 (field (m .name)) a e
+    → Puts b at 50 (monthStart m) a e
+unfolding monthStart
+put-month-start m place number head name = put-then place refl (put-three number head name refl)
+
+pub put-month-line : {b m₁ m₂ m₃ a : List ℕ} {at p₁ p₂ p₃ e : ℕ} {none : Bool} (m : ToldMonth) → none ≡ eqb (m .held) noneHeld
+    → Wrote b at (monthStart m) m₁ p₁
+    → p₁ ≤ at + 50
+    → Put m₁ p₁ 11 (field (m .days)) m₂ p₂
+    → Put m₂ p₂ 11 (field (m .remainder)) m₃ p₃
+    → Put m₃ p₃ 12 (lastField none (m .held)) a e
+    → Puts b at 84 (monthLine m) a e
+unfolding monthLine
+put-month-line {m₃ = m₃} {a = a} {p₃ = p₃} {e = e} m is start near days remainder last =
+    let held = subst (λ none. Put m₃ p₃ 12 (lastField none (m .held)) a e) is last in
+    record {
+      wrote =
+          λ h.
+          let w = all-put {rooms = 34} (put-three days remainder held refl) (omega (arith, start .same-length)) in
+          (wrote-then start (w .0), omega (arith, w .1));
+    }
 
 -- The lines of the months, and of the names.
 pub wrote-lunar : {b m a : List ℕ} {at p e : ℕ} (months : Year)

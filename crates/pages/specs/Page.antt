@@ -1,13 +1,16 @@
 -- The page that the almanac prints for a year: its lines, as bytes.
 use Prim.Native.Nat.{ℕ, _+_, _-_}
 use mathlib.Core.List.{List, [], _∷_, _++_}
+use lib.Dec.{eqb}
 use lib.ListN.{getD}
 use Rattle.calendar.specs.SixtyDayName.{nameOf}
+use Rattle.calendar.specs.Month.{noneHeld}
 use Rattle.reckoning.specs.declared.data.Sheet.{Sheet}
 use Rattle.reckoning.specs.declared.data.Year.{Year}
 use Rattle.reckoning.specs.Requests.{yearOf, sheetOf, daysOf}
-use Rattle.reckoning.specs.YearValue.{headIn, numberIn, leapIn}
-use Rattle.text.specs.Piece.{word, field, year, month, numbered, line, toldUnless, textsUpTo}
+use Rattle.reckoning.specs.YearValue.{headIn, numberIn, leapIn, remainderIn, heldIn}
+use Rattle.text.specs.Piece.{word, field, year, month, numbered, line, lastField, toldUnless, textsUpTo}
+use Rattle.pages.specs.declared.lunar.ToldMonth.{ToldMonth}
 use Rattle.pages.specs.declared.steps.Steps.the-variants.{Qi}
 use Rattle.pages.specs.StepLines.{stepLines}
 
@@ -15,16 +18,36 @@ use Rattle.pages.specs.StepLines.{stepLines}
 unfoldable pub yearLine : ℕ → ℕ → ℕ → ℕ → List ℕ
 yearLine system n months days = word (121 ∷ 101 ∷ 97 ∷ 114 ∷ 32 ∷ []) ++ (year system n ++ line [] (months ∷ days ∷ []))
 
--- "month", place from 1, number, '*' directly after it if leap, head, name of the head, length.
-unfoldable pub monthLine : ℕ → ℕ → ℕ → ℕ → ℕ → ℕ → List ℕ
-monthLine place number leap head name days =
-    numbered (109 ∷ 111 ∷ 110 ∷ 116 ∷ 104 ∷ []) place ++ (month number leap ++ line [] (head ∷ name ∷ days ∷ []))
-
--- The month at place i, from 0.
-unfoldable pub monthAt : Year → ℕ → List ℕ
-monthAt months i =
+-- What is told of the month at index i, from 0: its place from 1, number and leap mark, its head with its name, how many
+-- days it has, the remainder of its new moon, and the index of the middle qi that it holds.
+unfoldable pub toldMonth : Year → ℕ → ToldMonth
+toldMonth months i =
     let head = headIn months i in
-    monthLine (i + 1) (numberIn months i) (leapIn months i) head (nameOf head) (headIn months (i + 1) - head)
+    record {
+      place = i + 1;
+      number = numberIn months i;
+      leap = leapIn months i;
+      head = head;
+      name = nameOf head;
+      days = headIn months (i + 1) - head;
+      remainder = remainderIn months i;
+      held = heldIn months i;
+    }
+
+-- "month", place, number, '*' directly after it if leap, head and its name;
+unfoldable pub monthStart : ToldMonth → List ℕ
+monthStart m =
+    numbered (109 ∷ 111 ∷ 110 ∷ 116 ∷ 104 ∷ []) (m .place)
+    ++ (month (m .number) (m .leap) ++ (field (m .head) ++ field (m .name)))
+
+-- then days, remainder and the index of the middle qi held, '-' for none.
+unfoldable pub monthLine : ToldMonth → List ℕ
+monthLine m =
+    monthStart m ++ (field (m .days) ++ (field (m .remainder) ++ lastField (eqb (m .held) noneHeld) (m .held)))
+
+-- The line of the month at index i.
+abbrev pub monthAt : Year → ℕ → List ℕ
+monthAt months i = monthLine (toldMonth months i)
 
 unfoldable pub monthLines : Year → List ℕ
 monthLines months = textsUpTo (monthAt months) (months .count)

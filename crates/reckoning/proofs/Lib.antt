@@ -31,6 +31,8 @@ pub mod DateRequest
 pub mod PentadRequest
 -- The value that `year` returns holds the months of the reckoning.
 pub mod MonthsRight
+-- Over its months, marks, numbers and heads agree with the middle qi held.
+pub mod MonthsAgree
 -- Filling a list, and reading it.
 pub mod FilledLaws
 -- The other answers hold what the reckoning says.

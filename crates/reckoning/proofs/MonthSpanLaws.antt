@@ -3,16 +3,17 @@ use Prim.Native.Nat.{ℕ, _+_, _*_, _-_, _/_, _%_, _^_, _≤_, _<_}
 use mathlib.Core.Path.{_≡_, sym, ap, ap₂, _∙_}
 use native.Mathlib.Nat.{mod-lt, mul-le-mul-right, lt-of-le-of-lt}
 use native.Mathlib.Omega.{arith}
-use mir.Syntax.{w8, w64}
+use mir.Syntax.{w8, w32, w64}
 use mir.Val.{Fits}
 use Rattle.calendar.specs.declared.data.Constants.{Constants}
 use Rattle.calendar.specs.declared.data.RegisterDay.{RegisterDay}
 use Rattle.calendar.specs.Systems.{registerDay}
-use Rattle.calendar.specs.Month.{monthHead}
+use Rattle.calendar.specs.Month.{newMoonRemainder, monthHead}
 use Rattle.calendar.specs.Calendar.{Calendar}
 use Rattle.calendar.specs.ClosedForms.{monthOfDay, qiBefore, qiOfMonth}
 use Rattle.calendar.proofs.Reckoned.{reckoned, month-some, head-small}
 use Rattle.calendar.proofs.EveryCalendar.{month-of-day-most}
+use Rattle.calendar.proofs.HeldQi.{moon-told, remainder-below}
 use Rattle.calendar.proofs.Remainders.{partsInto, days-before, days-after, twelfthsSince, twelfthsIn, leap-by-twelfths, ordinary-by-twelfths}
 use Rattle.reckoning.specs.declared.closed_forms.LastStep.{LastStep}
 use Rattle.reckoning.specs.declared.month_spans.MonthSpan.{MonthSpan}
@@ -136,6 +137,33 @@ module _ {c : Constants} {m : MonthSpan} (s : SpanFits c m) where
     last-leap h =
         let leap = sym (leap-by-twelfths c (s .constants-fit .consistent) k (omega (arith, left-is, in-is))) in
         λ j. record { qi = step-is j; leap = leap j }
+
+  -- The remainder of its new moon, by its head.
+  pub moon-fits : Fits w64 (k * c .month)
+  moon-fits =
+      let few : k ≤ 2 ^ 32 = omega (arith, s .small) in
+      record { fits = lt-of-le-of-lt (mul-le-mul-right (c .month) few) (omega (arith, s .constants-fit .months)) }
+
+  by-head : m .head * c .lunar + newMoonRemainder c k ≡ k * c .month
+  by-head = omega (arith, ap (λ d. d * c .lunar) head-is, moon-told c (s .constants-fit .consistent) k)
+
+  pub head-within : m .head * c .lunar ≤ k * c .month
+  head-within = omega (arith, by-head)
+
+  pub head-parts-fit : Fits w64 (m .head * c .lunar)
+  head-parts-fit = omega (arith, head-within, moon-fits .fits)
+
+  pub remainder-is : k * c .month - m .head * c .lunar ≡ newMoonRemainder c k
+  remainder-is = omega (arith, by-head)
+
+  pub remainder-fits : Fits w32 (k * c .month - m .head * c .lunar)
+  remainder-fits =
+      omega (
+        arith,
+        remainder-is,
+        remainder-below c (s .constants-fit .consistent) k,
+        s .constants-fit .lunar-days,
+      )
 
   -- Month m as it is answered.
   pub answered-month : {r : RegisterDay} → r ≡ asRegisterDay (registerDay c (m .head))

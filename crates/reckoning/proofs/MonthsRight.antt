@@ -3,10 +3,11 @@ use Prim.Native.Nat.{ℕ, _+_, _-_, _≤_, _<_}
 use mathlib.Core.Path.{_≡_, refl, subst, sym, ap, _∙_}
 use mathlib.Core.Logic.{inl, inr, ⊎-elim}
 use native.Mathlib.Omega.{arith}
+use lib.ListN.{getD-replicate}
 use Rattle.calendar.specs.declared.data.Constants.{Constants}
 use Rattle.calendar.specs.ExactlyOne.{ExactlyOne}
 use Rattle.calendar.specs.Systems.{constantsOf, yearsElapsed, IsRegisterDay, registerDay, countDay}
-use Rattle.calendar.specs.Month.{monthHead, InMonth, Lacks, Bears, Marked}
+use Rattle.calendar.specs.Month.{monthHead, InMonth, Lacks, Bears, Marked, noneHeld, HeldTold}
 use Rattle.calendar.specs.Year.{InYear, DayOfYear}
 use Rattle.calendar.specs.Consistent.{Consistent}
 use Rattle.calendar.specs.ClosedForms.{firstMonth}
@@ -16,13 +17,15 @@ use Rattle.calendar.proofs.Reckoned.{reckoned}
 use Rattle.calendar.proofs.EveryCalendar.{count-least}
 use Rattle.calendar.proofs.Spans.{span, span-first, span-next}
 use Rattle.calendar.proofs.Numbers.{bears-its-number, marked}
+use Rattle.calendar.proofs.HeldQi.{held-told}
 use Rattle.calendar.proofs.Laws.{month-days, year-months, months-cover, twelve-none-lacks, thirteen-one-leap}
 use Rattle.reckoning.specs.declared.data.Year.{Year}
 use Rattle.reckoning.specs.Scope.{InScope}
 use Rattle.reckoning.specs.Asked.{askedOf}
 use Rattle.reckoning.specs.WordBounds.{InRegister, YearInRegister}
 use Rattle.reckoning.specs.ComputedRefusals.{yearRefusal}
-use Rattle.reckoning.specs.Requests.{asRegisterDay, headAt, numberAt, leapAt, noHeads, noMarks, monthsFrom, yearIn, noYear, yearOf}
+use Rattle.reckoning.specs.Requests.{asRegisterDay, headAt, numberAt, leapAt, remainderAt, heldAt, noHeads, noNumbers, noQi}
+use Rattle.reckoning.specs.Requests.{monthsFrom, yearIn, noYear, yearOf}
 use Rattle.reckoning.specs.YearValue.{headIn, ListsMonths, Tiled}
 use Rattle.reckoning.proofs.FilledLaws.{filled-below, filled-past, filled-length, replicate-reads}
 use Rattle.reckoning.proofs.RefusalCases.{accepted, in-scope}
@@ -60,24 +63,32 @@ module _ (c : Constants) (n : ℕ) (r : YearInRegister c n) where
         accepted = refl;
         places = (
           filled-length (headAt c f) noHeads (m + 1),
-          filled-length (numberAt c f) noMarks m,
-          filled-length (leapAt c f) noMarks m,
+          filled-length (numberAt c f) noNumbers m,
+          filled-length (leapAt c f) noNumbers m,
         );
+        places-beside = (filled-length (remainderAt c f) noNumbers m, filled-length (heldAt c f) noQi m);
         span = span c ok n;
         count = refl;
         head = λ i h. head-at i (omega arith);
         next = subst (λ k. IsRegisterDay c (headIn (yearIn c n) m) (monthHead c k)) e (head-at m (omega arith));
         number = λ i h.
-            let e = filled-below (numberAt c f) noMarks 0 m i h (omega arith) in
+            let e = filled-below (numberAt c f) noNumbers 0 m i h (omega arith) in
             subst (Bears c (f + i)) (sym e) (bears-its-number c ok (f + i));
         leap = λ i h.
-            let e = filled-below (leapAt c f) noMarks 0 m i h (omega arith) in
+            let e = filled-below (leapAt c f) noNumbers 0 m i h (omega arith) in
             subst (Marked c (f + i)) (sym e) (marked c ok (f + i));
+        remainder = λ i h. filled-below (remainderAt c f) noNumbers 0 m i h (omega arith);
+        qi = λ i h.
+            let e' = filled-below (heldAt c f) noQi 0 m i h (omega arith) in
+            let within-year : InYear c n (f + i) = record { span = span c ok n; from = omega arith; before = omega arith } in
+            subst (HeldTold c n (f + i)) (sym e') (held-told c ok n (f + i) within-year);
         unused-head = λ i h.
             let e = filled-past (headAt c f) noHeads (asRegisterDay 0) (m + 1) i (omega arith) in
             ap (λ d. d .0) (e ∙ replicate-reads (asRegisterDay 0) 14 i);
-        unused-number = λ i h. filled-past (numberAt c f) noMarks 0 m i h ∙ replicate-reads 0 14 i;
-        unused-leap = λ i h. filled-past (leapAt c f) noMarks 0 m i h ∙ replicate-reads 0 14 i;
+        unused-number = λ i h. filled-past (numberAt c f) noNumbers 0 m i h ∙ replicate-reads 0 14 i;
+        unused-leap = λ i h. filled-past (leapAt c f) noNumbers 0 m i h ∙ replicate-reads 0 14 i;
+        unused-remainder = λ i h. filled-past (remainderAt c f) noNumbers 0 m i h ∙ replicate-reads 0 14 i;
+        unused-qi = λ i h l. filled-past (heldAt c f) noQi 0 m i h ∙ getD-replicate 14 i noneHeld 0 l;
       }
 
 -- A value that holds the months of a year is tiled by them.
@@ -85,7 +96,7 @@ module _ (c : Constants) (ok : Consistent c) (n : ℕ) (v : Year) (y : ListsMont
   last : y .span .first + v .count ≡ y .span .next
   last = omega (arith, y .count, span-first c ok (y .span), span-next c ok (y .span), count-least (reckoned c ok) n)
 
-  head-upto : (i : ℕ) → i ≤ v .count → IsRegisterDay c (headIn v i) (monthHead c (y .span .first + i))
+  pub head-upto : (i : ℕ) → i ≤ v .count → IsRegisterDay c (headIn v i) (monthHead c (y .span .first + i))
   head-upto i h =
       by-order i (v .count) (y .head i)
       (λ l.
@@ -93,7 +104,7 @@ module _ (c : Constants) (ok : Consistent c) (n : ℕ) (v : Year) (y : ListsMont
       subst (λ x. IsRegisterDay c (headIn v x) (monthHead c (y .span .first + x))) (sym e)
       (subst (λ k. IsRegisterDay c (headIn v (v .count)) (monthHead c k)) (sym last) (y .next)))
 
-  head-after : (i : ℕ) → i < v .count → IsRegisterDay c (headIn v (i + 1)) (monthHead c (y .span .first + i + 1))
+  pub head-after : (i : ℕ) → i < v .count → IsRegisterDay c (headIn v (i + 1)) (monthHead c (y .span .first + i + 1))
   head-after i h =
       let e : y .span .first + (i + 1) ≡ y .span .first + i + 1 = omega arith in
       subst (λ k. IsRegisterDay c (headIn v (i + 1)) (monthHead c k)) e (head-upto (i + 1) (omega arith))

@@ -1,4 +1,5 @@
--- What each request answers, for every input: paper 01, "Reckoning" and "Numbered refusals", and paper 02, Q-3, Q-4 and Q-8.
+-- What each request answers, for every input: paper 01, "Reckoning" and "Numbered refusals", and paper 02, Q-3, Q-4, Q-8
+-- and Q-9.
 use Prim.Native.Nat.{ℕ, _+_, _-_, _/_, _%_}
 use mathlib.Core.Bool.{cond}
 use mathlib.Core.List.{List}
@@ -9,8 +10,8 @@ use Rattle.calendar.specs.declared.data.RegisterDay.{RegisterDay}
 use Rattle.calendar.specs.Systems.{constantsOf, yearsElapsed, registerDay, countDay}
 use Rattle.calendar.specs.SixtyDayName.{nameOf}
 use Rattle.calendar.specs.Steps.{moment, dayOf, partsOf, unitsOf}
-use Rattle.calendar.specs.Month.{monthHead}
-use Rattle.calendar.specs.ClosedForms.{pentadOn, monthOfDay, firstMonth, headOfYear, registerHead, yearOfMonth, monthNumber, leapMark, monthCited}
+use Rattle.calendar.specs.Month.{newMoonRemainder, monthHead, noneHeld}
+use Rattle.calendar.specs.ClosedForms.{pentadOn, monthOfDay, firstMonth, headOfYear, registerHead, yearOfMonth, monthNumber, leapMark, heldIndex, monthCited}
 use Rattle.calendar.specs.LeapMonth.{leapNumber}
 use Rattle.reckoning.specs.declared.asked.Asked.{Asked}
 use Rattle.reckoning.specs.declared.data.Moment.{Moment}
@@ -75,13 +76,17 @@ qiOf system year i = stepOf qis system year i
 abbrev pub pentadOf : ℕ → ℕ → ℕ → Moment
 pentadOf system year p = stepOf pentads system year p
 
--- The months of year n in order: their heads with the next year's head after them, their numbers and leap marks; 0 in
--- unused places. Refused: count, heads, numbers and marks all 0.
+-- The months of year n in order: their heads with the next year's head after them, their numbers and leap marks, the
+-- remainders of their new moons, and the indexes of the middle qi that they hold (paper 02, Q-9); in unused places 0, and
+-- that none is held. Refused: count, heads, numbers, marks and remainders all 0, and none held.
 abbrev pub noHeads : List RegisterDay
 noHeads = replicate 14 (asRegisterDay 0)
 
-abbrev pub noMarks : List ℕ
-noMarks = replicate 14 0
+abbrev pub noNumbers : List ℕ
+noNumbers = replicate 14 0
+
+abbrev pub noQi : List ℕ
+noQi = replicate 14 noneHeld
 
 abbrev pub headAt : Constants → ℕ → ℕ → RegisterDay
 headAt c first i = asRegisterDay (registerDay c (monthHead c (first + i)))
@@ -92,21 +97,38 @@ numberAt c first i = monthNumber c (first + i)
 abbrev pub leapAt : Constants → ℕ → ℕ → ℕ
 leapAt c first i = leapMark c (first + i)
 
+abbrev pub remainderAt : Constants → ℕ → ℕ → ℕ
+remainderAt c first i = newMoonRemainder c (first + i)
+
+abbrev pub heldAt : Constants → ℕ → ℕ → ℕ
+heldAt c first i = heldIndex c (first + i)
+
 unfoldable pub monthsFrom : Constants → ℕ → ℕ → Year
 monthsFrom c first count =
     record {
       refusal = 0;
       count = count;
       heads = filled (headAt c first) noHeads (count + 1);
-      numbers = filled (numberAt c first) noMarks count;
-      leaps = filled (leapAt c first) noMarks count;
+      numbers = filled (numberAt c first) noNumbers count;
+      leaps = filled (leapAt c first) noNumbers count;
+      remainders = filled (remainderAt c first) noNumbers count;
+      held = filled (heldAt c first) noQi count;
     }
 
 abbrev pub yearIn : Constants → ℕ → Year
 yearIn c n = monthsFrom c (firstMonth c n) (firstMonth c (n + 1) - firstMonth c n)
 
 abbrev pub noYear : ℕ → Year
-noYear refusal = record { refusal = refusal; count = 0; heads = noHeads; numbers = noMarks; leaps = noMarks }
+noYear refusal =
+    record {
+      refusal = refusal;
+      count = 0;
+      heads = noHeads;
+      numbers = noNumbers;
+      leaps = noNumbers;
+      remainders = noNumbers;
+      held = noQi;
+    }
 
 unfoldable pub yearOf : ℕ → ℕ → Year
 yearOf system year = answerUnless (yearRefusal system year) system year yearIn noYear

@@ -5,10 +5,11 @@ ghost use mathlib.Core.Bool.{false};
 ghost use Prim.Native.Nat.{_%_, _<_, _^_};
 ghost use Rattle.calendar.specs.Systems.{yearsElapsed, registerDay, countDay, beforeEpoch};
 ghost use Rattle.calendar.specs.Month.{monthHead, numberOf};
-ghost use Rattle.calendar.specs.ClosedForms.{dayOfQi};
+ghost use Rattle.calendar.specs.ClosedForms.{dayOfQi, heldBy};
 ghost use Rattle.reckoning.specs.CommonYears.{commonYear, outOfScope};
 ghost use Rattle.reckoning.specs.LastSteps.{lastStep};
 ghost use Rattle.reckoning.specs.WordBounds.{ConstantsFit, LastStepFits, InRegister};
+use crate::data::NONE_HELD;
 use calendar::data::Constants;
 use calendar::data::RegisterDay;
 
@@ -109,4 +110,15 @@ pub(crate) fn number_of_qi(g: u64) -> u8
     ensures { λ r. ⌜ r ≡ numberOf (g % 12) ⌝ }
 {
     number_of(g % 12)
+}
+
+// The index of the middle qi that a month holds, by the month's leap mark and its last middle qi; NONE_HELD for a leap
+// month.
+pub(crate) fn held_by(leap: u8, g: u64) -> u8
+    ensures { λ r. ⌜ r ≡ heldBy leap g ⌝ }
+{
+    if leap == 0 {
+        return (g % 12) as u8;
+    }
+    NONE_HELD
 }

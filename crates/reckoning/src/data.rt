@@ -17,14 +17,20 @@ pub struct PentadInForce {
     pub pentad: u32,
 }
 
+// The mark that a month holds no middle qi.
+pub const NONE_HELD: u8 = 255;
+
 // The months of a year: `count` of them, 12 or 13, or 0 when refused. Their heads stand in order, the next year's head
-// after them; beside each head the month's number and leap mark. Unused places are 0.
+// after them; beside each month's head its number and leap mark, the remainder of its new moon in lunar parts, and the
+// index, 0 to 11, of the middle qi that it holds, or NONE_HELD. Unused places are 0, those of the qi held NONE_HELD.
 pub struct Year {
     pub refusal: u8,
     pub count: u8,
     pub heads: [RegisterDay; 14],
     pub numbers: [u8; 14],
     pub leaps: [u8; 14],
+    pub remainders: [u32; 14],
+    pub held: [u8; 14],
 }
 
 // The names of a year's days, in order; 255 past its end.

@@ -23,6 +23,7 @@ use data::Date;
 use data::Days;
 use data::Moment;
 use data::Month;
+use data::NONE_HELD;
 use data::OrdinalDay;
 use data::PentadInForce;
 use data::Sheet;
@@ -76,6 +77,8 @@ pub fn year(system: u32, year: u32) -> Year
             heads: [RegisterDay(0); 14],
             numbers: [0u8; 14],
             leaps: [0u8; 14],
+            remainders: [0u32; 14],
+            held: [NONE_HELD; 14],
         };
     }
     months::of_year(system, asked.c, year)

@@ -1,7 +1,8 @@
-// Months with their bounds: that of a day, of a middle qi or of a year's beginning, and the next; a month's last middle
-// qi.
+// Months with their bounds: that of a day, of a middle qi or of a year's beginning, and the next; a month's new moon and
+// its last middle qi.
 ghost use mathlib.Core.Path.{_≡_};
 ghost use Prim.Native.Nat.{_+_, _<_, _^_};
+ghost use Rattle.calendar.specs.Month.{newMoonRemainder};
 ghost use Rattle.calendar.specs.ClosedForms.{monthOfDay, monthOfQi, firstMonth};
 ghost use Rattle.reckoning.specs.MonthSpans.{monthSpan, lastQi};
 ghost use Rattle.reckoning.specs.WordBounds.{ConstantsFit, SpanFits};
@@ -67,6 +68,15 @@ pub(crate) fn after(c: Constants, m: MonthSpan) -> MonthSpan
         head: m.next,
         next: month_head(c, m.month + 2),
     }
+}
+
+// The remainder of the new moon of month m: the parts from the beginning of the month's first day. No division is left
+// to do, since the head is known.
+pub(crate) fn remainder(c: Constants, m: MonthSpan) -> u32
+    requires { ⌜ SpanFits c m ⌝ }
+    ensures { λ r. ⌜ r ≡ newMoonRemainder c (m .month) ⌝ }
+{
+    (m.month * c.month - m.head * c.lunar) as u32
 }
 
 // What the last middle qi of month m tells. The month is leap exactly when there are no fewer parts from that qi to its

@@ -5,15 +5,18 @@ ghost use Rattle.reckoning.specs.MonthSpans.{monthSpan};
 ghost use Rattle.reckoning.specs.Requests.{answerOfYear, headAt, monthsFrom, yearIn, monthAt, noMonthTelling, noMonth, monthIn, monthSilent};
 ghost use Rattle.reckoning.specs.WordBounds.{InRegister, SpanFits, MonthsInRegister, YearInRegister, YearsInRegister};
 use crate::closed_forms::day_of_qi;
+use crate::closed_forms::held_by;
 use crate::closed_forms::number_of_qi;
 use crate::closed_forms::register_day;
 use crate::closed_forms::years_elapsed;
 use crate::data::Month;
+use crate::data::NONE_HELD;
 use crate::data::Year;
 use crate::month_spans::MonthSpan;
 use crate::month_spans::after;
 use crate::month_spans::last_qi;
 use crate::month_spans::of_qi;
+use crate::month_spans::remainder;
 use crate::refusal::out_of_years;
 use crate::refusal::outside;
 use crate::refusal_numbers::LEAP;
@@ -23,7 +26,8 @@ use crate::year_heads::first_month;
 use calendar::data::Constants;
 use calendar::data::RegisterDay;
 
-// `count` months from month `first` on: in order each head, number and leap mark, then `closing`, the head after them.
+// `count` months from month `first` on: in order each head, number, leap mark, remainder and middle qi held, then
+// `closing`, the head after them.
 fn list(c: Constants, first: MonthSpan, count: usize, closing: RegisterDay) -> Year
     requires { ⌜ (first ≡ monthSpan c (first .month))
         × (closing ≡ headAt c (first .month) count)
@@ -33,6 +37,8 @@ fn list(c: Constants, first: MonthSpan, count: usize, closing: RegisterDay) -> Y
     let mut heads = [RegisterDay(0); 14];
     let mut numbers = [0u8; 14];
     let mut leaps = [0u8; 14];
+    let mut remainders = [0u32; 14];
+    let mut held = [NONE_HELD; 14];
     let mut m = first;
     let mut i = 0;
     while i < count {
@@ -41,6 +47,8 @@ fn list(c: Constants, first: MonthSpan, count: usize, closing: RegisterDay) -> Y
         heads[i] = head;
         numbers[i] = number_of_qi(last.qi);
         leaps[i] = last.leap;
+        remainders[i] = remainder(c, m);
+        held[i] = held_by(last.leap, last.qi);
         m = after(c, m);
         i += 1;
     }
@@ -51,6 +59,8 @@ fn list(c: Constants, first: MonthSpan, count: usize, closing: RegisterDay) -> Y
         heads: heads,
         numbers: numbers,
         leaps: leaps,
+        remainders: remainders,
+        held: held,
     }
 }
 

@@ -1,7 +1,7 @@
 -- Text written piece by piece.
 use Prim.Native.Nat.{ℕ, _+_, _≤_, _<_}
 use mathlib.Core.Path.{_≡_, refl, subst, ap, ap₂, sym, _∙_}
-use mathlib.Core.Bool.{cond}
+use mathlib.Core.Bool.{Bool, true, false, cond}
 use mathlib.Core.List.{List, [], _∷_, _++_, append-assoc, append-nil}
 use native.Mathlib.Numerals.{add-one}
 use native.Mathlib.Omega.{arith}
@@ -12,7 +12,7 @@ use lib.Seq.{paste, paste-suc, length-paste}
 use borrow.Author.Tests.{eq-eqb, ne-eqb}
 use Rattle.calendar.proofs.Rising.{by-order}
 use Rattle.text.specs.Decimal.{decimal}
-use Rattle.text.specs.Piece.{word, field, letterOf, year, star, month, numbered, fields, textsUpTo}
+use Rattle.text.specs.Piece.{word, field, letterOf, year, star, month, numbered, fields, newline, lastField, textsUpTo}
 use Rattle.text.specs.Wrote.{Wrote}
 
 -- One byte.
@@ -122,6 +122,18 @@ pub wrote-numbered : {b m a : List ℕ} {at p e : ℕ} (bytes : List ℕ) (n : �
     → Wrote b at (numbered bytes n) a e
 unfolding numbered
 wrote-numbered bytes n w v = wrote-then w v
+
+-- The last field of a line, by whether there is a number.
+pub wrote-dash : {b a : List ℕ} {at e : ℕ} {none : Bool} (n : ℕ) → none ≡ true → Wrote b at (word (32 ∷ 45 ∷ newline)) a e
+    → Wrote b at (lastField none n) a e
+unfolding lastField
+wrote-dash n e w = rw e w
+
+pub wrote-last : {b m a : List ℕ} {at p e : ℕ} {none : Bool} (n : ℕ) → none ≡ false → Wrote b at (field n) m p
+    → Wrote m p newline a e
+    → Wrote b at (lastField none n) a e
+unfolding lastField
+wrote-last n e w v = rw e (wrote-then w v)
 
 -- A field more.
 fields-after : (numbers : List ℕ) (n : ℕ) → fields (numbers ++ n ∷ []) ≡ fields numbers ++ field n

@@ -1,6 +1,6 @@
--- The pieces that lines are made of, as bytes: 32 is ' ', 42 '*', 10 ends a line.
+-- The pieces that lines are made of, as bytes: 32 is ' ', 42 '*', 45 '-', 10 ends a line.
 use Prim.Native.Nat.{ℕ, zero, suc}
-use mathlib.Core.Bool.{cond}
+use mathlib.Core.Bool.{Bool, cond}
 use mathlib.Core.List.{List, [], _∷_, _++_}
 use lib.Dec.{eqb}
 use lib.ListN.{getD}
@@ -29,6 +29,10 @@ newline = 10 ∷ []
 -- A line: a word, and a field for each number.
 abbrev pub line : List ℕ → List ℕ → List ℕ
 line bytes numbers = word bytes ++ (fields numbers ++ newline)
+
+-- The last field of a line: a space and a number, or '-' where there is none; and the line's end.
+unfoldable pub lastField : Bool → ℕ → List ℕ
+lastField none n = cond none (word (32 ∷ 45 ∷ newline)) (field n ++ newline)
 
 -- The letters of the systems, in the order of their numbers: G of Guantian, J of Jiyuan, W of Jingchu.
 abbrev pub letters : List ℕ

@@ -6,7 +6,7 @@ ghost use Prim.Native.Nat.{_+_, _*_, _^_, _<_};
 ghost use lib.Dec.{ltb};
 ghost use lib.ListN.{length};
 ghost use Rattle.text.specs.Decimal.{decimal};
-ghost use Rattle.text.specs.Piece.{word, field, letterOf, year, month, numbered, line, refusedWith, refusedLine, refusedTellingLine};
+ghost use Rattle.text.specs.Piece.{word, field, letterOf, year, month, numbered, line, lastField, refusedWith, refusedLine, refusedTellingLine};
 ghost use Rattle.text.specs.Put.{Put};
 
 mod put;
@@ -122,6 +122,16 @@ pub fn line(out: &mut [u8], at: usize, bytes: &[u8], numbers: &[u32]) -> usize
         return at;
     }
     put::line(out, at, bytes, numbers)
+}
+
+// The last field of a line: a space and a number, or '-' where there is none; and the line's end.
+pub fn last_field(out: &mut [u8], at: usize, none: bool, n: u32) -> usize
+    ensures { λ r. ⌜ Put (now (out .entry)) at 12 (lastField none n) (now (out .exit)) r ⌝ }
+{
+    if is_short(out.len(), at, 12) {
+        return at;
+    }
+    put::last_field(out, at, none, n)
 }
 
 fn refused_with(out: &mut [u8], at: usize, numbers: &[u32]) -> usize

@@ -6,7 +6,7 @@ ghost use mathlib.Core.List.{[], _∷_};
 ghost use lib.Dec.{eqb, ltb};
 ghost use lib.ListN.{length};
 ghost use Rattle.text.specs.Decimal.{digit, twoDigits, fourDigits, decimal};
-ghost use Rattle.text.specs.Piece.{word, field, year, star, month, numbered, fields, line};
+ghost use Rattle.text.specs.Piece.{word, field, year, star, month, numbered, fields, line, lastField};
 ghost use Rattle.text.specs.Wrote.{Wrote};
 use crate::letter_of;
 
@@ -227,4 +227,16 @@ pub(crate) fn line(out: &mut [u8], start: usize, bytes: &[u8], numbers: &[u32]) 
     let at = word(out, start, bytes);
     let at = fields(out, at, numbers);
     byte(out, at, b'\n')
+}
+
+// A field and the line's end; '-' in the field where there is no number.
+pub(crate) fn last_field(out: &mut [u8], at: usize, none: bool, n: u32) -> usize
+    requires { ⌜ at + 12 ≤ length (now out) ⌝ }
+    ensures { λ r. ⌜ Wrote (now (out .entry)) at (lastField none n) (now (out .exit)) r × (r ≤ at + 12) ⌝ }
+{
+    if none {
+        return word(out, at, b" -\n");
+    }
+    let next = field(out, at, n);
+    byte(out, next, b'\n')
 }

@@ -12,7 +12,7 @@ use Rattle.pages.proofs.lunar.month_lines.Tie as tie
 
 abbrev Inv-loop : tie.InvT-loop
 Inv-loop out₀ start months count at₀ i₀ out at i =
-    (count ≡ months .count) × (i ≤ count) × (at ≤ start + 62 * i) × Wrote out₀ start (textsUpTo (monthAt months) i) out at
+    (count ≡ months .count) × (i ≤ count) × (at ≤ start + 84 * i) × Wrote out₀ start (textsUpTo (monthAt months) i) out at
 
 abbrev μ-loop : tie.MeasureT-loop
 μ-loop out₀ start months count at₀ i₀ out at i = count - i
@@ -23,8 +23,11 @@ cast-count c = search needs
 loop-holds : tie.Need-loop-holds Inv-loop μ-loop
 loop-holds c = (search needs, omega arith, omega arith, wrote-no-texts _ (omega arith))
 
-month-at-requires : tie.Need-month-at-requires Inv-loop μ-loop
-month-at-requires c κs = search needs
+told-requires : tie.Need-told-requires Inv-loop μ-loop
+told-requires c κs = search needs
+
+month-line-requires : tie.Need-month-line-requires Inv-loop μ-loop
+month-line-requires c κs = search needs
 
 add-i : tie.Need-add-i Inv-loop μ-loop
 add-i c = search needs
@@ -49,7 +52,8 @@ month-lines-spec =
     μ-loop
     cast-count
     loop-holds
-    month-at-requires
+    told-requires
+    month-line-requires
     add-i
     loop-less
     loop-again

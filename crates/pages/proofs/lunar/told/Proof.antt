@@ -1,9 +1,8 @@
-use native.Mathlib.Omega.{arith}
 use Rattle.pages.proofs.Months.{head-rises}
-use Rattle.pages.proofs.PageText.{wrote-month-at}
+use Rattle.pages.proofs.PageText.{told-named}
 use borrow.Author.Needs.{needs}
-use Rattle.pages.proofs.lunar.month_at.Statement.{statement}
-use Rattle.pages.proofs.lunar.month_at.Tie as tie
+use Rattle.pages.proofs.lunar.told.Statement.{statement}
+use Rattle.pages.proofs.lunar.told.Tie as tie
 
 mul-head : tie.Need-mul-head
 mul-head c = search needs
@@ -26,6 +25,15 @@ element-copy-out-number c = search needs
 element-copy-out-leap : tie.Need-element-copy-out-leap
 element-copy-out-leap c = search needs
 
+mul-remainder : tie.Need-mul-remainder
+mul-remainder c = search needs
+
+element-copy-out-remainder : tie.Need-element-copy-out-remainder
+element-copy-out-remainder c = search needs
+
+element-copy-out-held : tie.Need-element-copy-out-held
+element-copy-out-held c = search needs
+
 cast-place : tie.Need-cast-place
 cast-place c = search needs
 
@@ -38,19 +46,11 @@ sub-days c = search head-rises
 name-requires : tie.Need-name-requires
 name-requires c κs = search needs
 
-month-line-requires : tie.Need-month-line-requires
-month-line-requires c κs = search needs
-
-same-length : tie.Need-same-length
-same-length c = search needs
-
 returns : tie.Need-returns
-returns c =
-    let put = c .before .before in
-    (wrote-month-at _ _ (put .before .name .ensures) (put .month-line .ensures .0), omega arith)
+returns c = told-named _ _ (c .name .ensures)
 
-pub month-at-spec : {M : Type 1} → statement M
-month-at-spec =
+pub told-spec : {M : Type 1} → statement M
+told-spec =
     tie.close
     (tie.spec
     mul-head
@@ -60,10 +60,11 @@ month-at-spec =
     element-copy-out-next
     element-copy-out-number
     element-copy-out-leap
+    mul-remainder
+    element-copy-out-remainder
+    element-copy-out-held
     cast-place
     add-place
     sub-days
     name-requires
-    month-line-requires
-    same-length
     returns)
