@@ -23,7 +23,11 @@ fn accepted_page(table: &Table, number: i128) -> Vec<String> {
     lines
 }
 
+/// A month and, last, its reasons: the new moon's remainder and the index
+/// of the middle qi that it holds.
 fn month_line((i, month): (usize, &Month)) -> String {
     let (text, head) = (month_text(month.number, month.leap), month.head);
-    format!("month {} {} {} {} {}", i + 1, text, head, name_of(head), month.length)
+    let days = format!("{} {} {}", head, name_of(head), month.length);
+    let held = month.held.map_or("-".to_string(), |j| j.to_string());
+    format!("month {} {} {} {} {}", i + 1, text, days, month.remainder, held)
 }

@@ -5,6 +5,7 @@ use crate::almanac;
 use crate::citation::{answer, store, Refusal, Stored};
 use crate::heads;
 use crate::lines::lines;
+use crate::month_cases;
 use crate::pentads::{self, in_force_line, Pentads};
 use crate::reckoning::{
     name_of, Moment, Month, System, Table, Tables, Year, FIRST_YEAR, LAST_YEAR, SYSTEMS,
@@ -48,6 +49,7 @@ pub fn run(tables: &Tables) -> Checks {
     nineteen_years(tables, &mut checks);
     jingchu_remainders(tables, &mut checks);
     retired_cases::run(tables, &mut checks);
+    month_cases::run(tables, &mut checks);
     for system in SYSTEMS {
         let table = tables.table(system.number).unwrap();
         facts(table, &mut checks);
@@ -61,6 +63,7 @@ pub fn run(tables: &Tables) -> Checks {
         every_pentad(table, &mut checks);
         every_day_in_force(table, &mut checks);
         retired_cases::every_old_day(tables, table, &mut checks);
+        month_cases::every_month(tables, table, &mut checks);
     }
     checks
 }
@@ -129,12 +132,11 @@ fn examples(tables: &Tables, checks: &mut Checks) {
     let y = guantian.year(1092);
     checks.same("1", solstice_of(y), (2119895, 25, 2_320));
 
-    let moon = y.months[0].new_moon;
     checks.same("2, parts before", parts_to_solstice(guantian.system, y), 28_067);
     checks.same("2, day", y.head, 2119892);
     checks.same("2, first month's head", y.months[0].head, 2119892);
     checks.same("2, name", name_of(y.head), 22);
-    checks.same("2, remainder", guantian.system.remainder_of_moon(moon), 10_343);
+    checks.same("2, remainder", y.months[0].remainder, 10_343);
 
     checks.same("3, months", y.months.len(), 12);
     checks.same("3, days", y.length(), 355);
@@ -161,11 +163,10 @@ fn examples(tables: &Tables, checks: &mut Checks) {
     let y = jiyuan.year(1106);
     checks.same("7", solstice_of(y), (2125008, 38, 4_536));
 
-    let moon = y.months[0].new_moon;
     checks.same("8, parts before", parts_to_solstice(jiyuan.system, y), 50_806);
     checks.same("8, day", y.head, 2125001);
     checks.same("8, name", name_of(y.head), 31);
-    checks.same("8, remainder", jiyuan.system.remainder_of_moon(moon), 4_760);
+    checks.same("8, remainder", y.months[0].remainder, 4_760);
     checks.same("8, months", y.months.len(), 12);
 
     let first = [0x0A, 0x00, 0x01, 0x00, 0x01, 0x46, 0x04, 0x05, 0x00, 0x01];
@@ -211,7 +212,7 @@ fn days_with_qi_and_moon(tables: &Tables, checks: &mut Checks) {
     let (summer, month) = (&y.qi[12], &y.months[7]);
     checks.same("Q-2, day of the summer solstice", summer.day, 2120808);
     checks.same("Q-2, day of the new moon", month.head, 2120808);
-    let parts_between = guantian.system.remainder_of_moon(month.new_moon) - summer.parts;
+    let parts_between = month.remainder - summer.parts;
     checks.same("Q-2, parts between them", (parts_between, summer.units), (76, 0));
 
     checks.same("Q-2, leap months of 1094", leap_numbers(y), vec![4]);
@@ -356,7 +357,7 @@ fn refused_by_year(checks: &mut Checks, request: &str, ask: impl Fn(&str, &str) 
 }
 
 /// The page of one year, or the refusal.
-fn page_of(tables: &Tables, system: &str, year: &str) -> Answer {
+pub fn page_of(tables: &Tables, system: &str, year: &str) -> Answer {
     almanac::page(tables, &Number::read(system).unwrap(), &Number::read(year).unwrap())
 }
 
@@ -526,8 +527,7 @@ fn jingchu_years(tables: &Tables, checks: &mut Checks) {
     ] {
         let y = jingchu.year(year);
         let what = format!("Q-6, {}", year);
-        let moon = y.months[0].new_moon;
-        let of_head = (y.head, name_of(y.head), jingchu.system.remainder_of_moon(moon));
+        let of_head = (y.head, name_of(y.head), y.months[0].remainder);
         checks.same(&what, (solstice_of(y), of_head), (solstice, head));
         checks.same(&what, (y.months.len(), y.length()), (months, days));
     }
@@ -658,7 +658,7 @@ fn nineteen_years(tables: &Tables, checks: &mut Checks) {
 
     for number in FIRST_YEAR..=LAST_YEAR {
         let y = jingchu.year(number);
-        let (solstice, moon) = (&y.qi[0], jingchu.system.remainder_of_moon(y.months[0].new_moon));
+        let (solstice, moon) = (&y.qi[0], y.months[0].remainder);
         let at_new_moon = y.head == solstice.day && solstice.parts * 4_559 == moon * 1_843;
         checks.that(at_new_moon == ((number - 239) % 19 == 0), || {
             format!("Q-6: the solstice of {} and the new moon", number)
@@ -676,7 +676,7 @@ fn jingchu_remainders(tables: &Tables, checks: &mut Checks) {
         let y = jingchu.year(number);
         let say = |what: &str| format!("001, W {}: {}", number, what);
         for month in &y.months {
-            let long = jingchu.system.remainder_of_moon(month.new_moon) >= 2_140;
+            let long = month.remainder >= 2_140;
             checks.that((month.length == 30) == long, || say("a long month"));
         }
         let left = (4_045 + (number - 237)) * 235 % 19;
@@ -762,7 +762,7 @@ fn every_day_in_force(table: &Table, checks: &mut Checks) {
 }
 
 /// The numbers of the months that hold the middle qi, in order.
-const IN_ORDER: [u8; 12] = [11, 12, 1, 2, 3, 4, 5, 6, 7, 8, 9, 10];
+pub const IN_ORDER: [u8; 12] = [11, 12, 1, 2, 3, 4, 5, 6, 7, 8, 9, 10];
 
 /// The days of a year's twelve middle qi, in order; qi 24 is of the year after.
 fn middle_days(year: &Year) -> Vec<i128> {
@@ -987,20 +987,18 @@ fn carried_months(
     checks: &mut Checks,
 ) {
     let say = |what: &str| format!("{} {}: {} by carried steps", system.letter, y.number, what);
-    let mut waiting = middle.into_iter().peekable();
+    let mut waiting = middle.into_iter().enumerate().peekable();
     let mut number = 10;
     for month in &y.months {
-        checks.that(
-            moon.register_day(system) == month.head
-                && moon.parts as i128 == system.remainder_of_moon(month.new_moon),
-            || say("a month's head"),
-        );
+        checks.that(moon.register_day(system) == month.head, || say("a month's head"));
+        checks.that(moon.parts as i128 == month.remainder, || say("a new moon's remainder"));
         moon = end_of_moon(moon);
-        let leap = waiting.next_if(|day| *day < moon.day).is_none();
-        if !leap {
+        let held = waiting.next_if(|(_, day)| *day < moon.day).map(|(j, _)| j);
+        if held.is_some() {
             number = if number == 12 { 1 } else { number + 1 };
         }
-        checks.that(month.leap == leap && month.number == number, || say("a month's number"));
+        checks.that(month.held == held, || say("the middle qi of a month"));
+        checks.that(month.leap == held.is_none() && month.number == number, || say("a month's number"));
     }
     checks.that(waiting.next().is_none(), || say("a middle qi is left over"));
     checks.that(moon.register_day(system) == y.next_head, || say("next head"));

@@ -9,6 +9,7 @@ mod compare;
 mod conversion;
 mod heads;
 mod lines;
+mod month_cases;
 mod pentads;
 mod random;
 mod reckoning;

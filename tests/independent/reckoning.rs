@@ -185,6 +185,10 @@ pub struct Month {
     pub new_moon: Lunar,
     pub head: i128,
     pub length: i128,
+    /// The lunar parts of its first day that have passed at the new moon.
+    pub remainder: i128,
+    /// Which of the middle qi of its year it holds, 0 to 11, if it holds one.
+    pub held: Option<usize>,
     pub number: u8,
     pub leap: bool,
 }
@@ -345,15 +349,26 @@ fn month_at(system: &System, qi: &[Moment], new_moon: Lunar, before: Option<&Mon
     // Its days run from the day of its new moon to the day before the next.
     let head = system.day_of_moon(new_moon);
     let next = system.day_of_moon(system.next_moon(new_moon));
-    let mut held = Vec::new();
+    let mut held = None;
     for j in 0..12 {
         // The qi's day decides: on the first day it may come before the moon.
         if (head..next).contains(&qi[2 * j].day) {
-            held.push(NUMBERS[j]);
+            assert!(held.is_none(), "a month holds two middle qi");
+            held = Some(j);
         }
     }
-    // Without a middle qi of its own it repeats the number before it.
-    let leap = held.is_empty();
-    let number = if leap { before.expect("the first month is leap").number } else { held[0] };
-    Month { new_moon, head, length: next - head, number, leap }
+    // Without a middle qi of its own it is leap and repeats the number before.
+    let number = match held {
+        Some(j) => NUMBERS[j],
+        None => before.expect("the first month is leap").number,
+    };
+    Month {
+        new_moon,
+        head,
+        length: next - head,
+        remainder: system.remainder_of_moon(new_moon),
+        held,
+        number,
+        leap: held.is_none(),
+    }
 }
