@@ -24,7 +24,7 @@ use Rattle.reckoning.specs.Scope.{InScope}
 use Rattle.reckoning.specs.Asked.{askedOf}
 use Rattle.reckoning.specs.WordBounds.{InRegister, YearInRegister}
 use Rattle.reckoning.specs.ComputedRefusals.{yearRefusal}
-use Rattle.reckoning.specs.Requests.{asRegisterDay, headAt, numberAt, leapAt, remainderAt, heldAt, noHeads, noNumbers, noQi}
+use Rattle.reckoning.specs.Requests.{asRegisterDay, headAt, numberAt, leapAt, heldAt, noHeads, noNumbers, noQi}
 use Rattle.reckoning.specs.Requests.{monthsFrom, yearIn, noYear, yearOf}
 use Rattle.reckoning.specs.YearValue.{headIn, ListsMonths, Tiled}
 use Rattle.reckoning.proofs.FilledLaws.{filled-below, filled-past, filled-length, replicate-reads}
@@ -62,11 +62,12 @@ module _ (c : Constants) (n : ℕ) (r : YearInRegister c n) where
       record {
         accepted = refl;
         places = (
-          filled-length (headAt c f) noHeads (m + 1),
-          filled-length (numberAt c f) noNumbers m,
-          filled-length (leapAt c f) noNumbers m,
+          filled-length _ noHeads _,
+          filled-length _ noNumbers _,
+          filled-length _ noNumbers _,
+          filled-length _ noNumbers _,
+          filled-length _ noQi _,
         );
-        places-beside = (filled-length (remainderAt c f) noNumbers m, filled-length (heldAt c f) noQi m);
         span = span c ok n;
         count = refl;
         head = λ i h. head-at i (omega arith);
@@ -77,18 +78,18 @@ module _ (c : Constants) (n : ℕ) (r : YearInRegister c n) where
         leap = λ i h.
             let e = filled-below (leapAt c f) noNumbers 0 m i h (omega arith) in
             subst (Marked c (f + i)) (sym e) (marked c ok (f + i));
-        remainder = λ i h. filled-below (remainderAt c f) noNumbers 0 m i h (omega arith);
+        remainder = λ i h. filled-below _ noNumbers 0 _ i (omega arith) (omega arith);
         qi = λ i h.
-            let e' = filled-below (heldAt c f) noQi 0 m i h (omega arith) in
-            let within-year : InYear c n (f + i) = record { span = span c ok n; from = omega arith; before = omega arith } in
-            subst (HeldTold c n (f + i)) (sym e') (held-told c ok n (f + i) within-year);
+            let told = filled-below (heldAt c f) noQi 0 m i h (omega arith) in
+            let in-year : InYear c n (f + i) = record { span = span c ok n; from = omega arith; before = omega arith } in
+            subst (HeldTold c n (f + i)) (sym told) (held-told c ok n (f + i) in-year);
         unused-head = λ i h.
             let e = filled-past (headAt c f) noHeads (asRegisterDay 0) (m + 1) i (omega arith) in
             ap (λ d. d .0) (e ∙ replicate-reads (asRegisterDay 0) 14 i);
         unused-number = λ i h. filled-past (numberAt c f) noNumbers 0 m i h ∙ replicate-reads 0 14 i;
         unused-leap = λ i h. filled-past (leapAt c f) noNumbers 0 m i h ∙ replicate-reads 0 14 i;
-        unused-remainder = λ i h. filled-past (remainderAt c f) noNumbers 0 m i h ∙ replicate-reads 0 14 i;
-        unused-qi = λ i h l. filled-past (heldAt c f) noQi 0 m i h ∙ getD-replicate 14 i noneHeld 0 l;
+        unused-remainder = λ i h. filled-past _ noNumbers 0 _ i (omega arith) ∙ replicate-reads 0 14 i;
+        unused-qi = λ i h l. filled-past _ noQi 0 _ i (omega arith) ∙ getD-replicate 14 i noneHeld 0 l;
       }
 
 -- A value that holds the months of a year is tiled by them.

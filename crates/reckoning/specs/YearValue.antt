@@ -33,8 +33,11 @@ heldIn v i = getD (v .held) i 0
 -- remainder and middle qi held, then the next year's head; unused places are 0, and hold no qi.
 pub record ListsMonths (c : Constants) (n : ℕ) (v : Year) : Type 0 where
   pub accepted : v .refusal ≡ 0
-  pub places : (length (v .heads) ≡ 14) × (length (v .numbers) ≡ 14) × (length (v .leaps) ≡ 14)
-  pub places-beside : (length (v .remainders) ≡ 14) × (length (v .held) ≡ 14)
+  pub places : (length (v .heads) ≡ 14)
+      × (length (v .numbers) ≡ 14)
+      × (length (v .leaps) ≡ 14)
+      × (length (v .remainders) ≡ 14)
+      × (length (v .held) ≡ 14)
   pub span : Span c n
   pub count : v .count ≡ monthCount span
   pub head : (i : ℕ) → i < v .count → IsRegisterDay c (headIn v i) (monthHead c (span .first + i))
