@@ -1,6 +1,6 @@
 -- Laws that serve several functions.
 -- The months and the days of a year that was asked for.
-pub mod Months
+pub mod YearAsked
 -- The lines of equal steps from their pieces.
 pub mod StepText
 -- What is printed of pentads from its pieces.

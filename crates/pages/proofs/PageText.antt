@@ -18,11 +18,11 @@ use Rattle.text.specs.Put.{Put}
 use Rattle.text.specs.Wrote.{Wrote}
 use Rattle.text.proofs.Writing.{wrote-as, wrote-then, wrote-one-more}
 use Rattle.text.proofs.Putting.{Puts, put-wrote, put-then, put-three, all-put, put-refusal, wrote-told}
-use Rattle.pages.specs.declared.lunar.ToldMonth.{ToldMonth}
+use Rattle.pages.specs.declared.months.ToldMonth.{ToldMonth}
 use Rattle.pages.specs.declared.steps.Steps.the-variants.{Qi}
 use Rattle.pages.specs.StepLines.{stepLines}
 use Rattle.pages.specs.Page.{yearLine, toldMonth, monthStart, monthLine, monthLines, nextLine}
-use Rattle.pages.specs.Page.{lunarLines, nameAt, sheetNames, namesLine, monthAt, yearLines, pageOf}
+use Rattle.pages.specs.Page.{nameAt, sheetNames, namesLine, monthAt, yearLines, pageOf}
 
 -- A loop's texts, one more and all.
 pub wrote-month-more : {b m a : List ℕ} {at p e : ℕ} {month : ToldMonth} (months : Year) (i : ℕ) → month ≡ toldMonth months i
@@ -110,12 +110,7 @@ put-month-line {m₃ = m₃} {a = a} {p₃ = p₃} {e = e} m is start near days 
           (wrote-then start (w .0), omega (arith, w .1));
     }
 
--- The lines of the months, and of the names.
-pub wrote-lunar : {b m a : List ℕ} {at p e : ℕ} (months : Year)
-    → Wrote b at (monthLines months) m p → Wrote m p (nextLine months) a e → Wrote b at (lunarLines months) a e
-unfolding lunarLines
-wrote-lunar months w v = wrote-then w v
-
+-- The line of the names.
 pub put-names : {b m₁ m₂ a : List ℕ} {at p₁ p₂ e : ℕ} (sheet : Sheet) (days : ℕ)
     → Put b at 5 (word (110 ∷ 97 ∷ 109 ∷ 101 ∷ 115 ∷ [])) m₁ p₁
     → Wrote m₁ p₁ (sheetNames sheet days) m₂ p₂
@@ -133,14 +128,16 @@ put-names sheet days first names near last =
     }
 
 -- The whole page: of a year answered, and of one refused.
-pub wrote-year-lines : {b m₁ m₂ m₃ a : List ℕ} {at p₁ p₂ p₃ e : ℕ} (system n : ℕ) (months : Year) (days : ℕ) (sheet : Sheet)
+pub wrote-year-lines : {b m₁ m₂ m₃ m₄ a : List ℕ} {at p₁ p₂ p₃ p₄ e : ℕ} (system n : ℕ) (months : Year) (days : ℕ) (sheet : Sheet)
     → Wrote b at (yearLine system n (months .count) days) m₁ p₁
     → Wrote m₁ p₁ (stepLines Qi 25 system n) m₂ p₂
-    → Wrote m₂ p₂ (lunarLines months) m₃ p₃
-    → Wrote m₃ p₃ (namesLine sheet days) a e
+    → Wrote m₂ p₂ (monthLines months) m₃ p₃
+    → Wrote m₃ p₃ (nextLine months) m₄ p₄
+    → Wrote m₄ p₄ (namesLine sheet days) a e
     → Wrote b at (yearLines system n months days sheet) a e
 unfolding yearLines
-wrote-year-lines system n months days sheet w₁ w₂ w₃ w₄ = wrote-then w₁ (wrote-then w₂ (wrote-then w₃ w₄))
+wrote-year-lines system n months days sheet w₁ w₂ w₃ w₄ w₅ =
+    wrote-then w₁ (wrote-then w₂ (wrote-then w₃ (wrote-then w₄ w₅)))
 
 abbrev told : ℕ → ℕ → Year → List ℕ
 told system n v = yearLines system n v ((daysOf system n) .length) (sheetOf system n)

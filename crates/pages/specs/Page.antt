@@ -10,7 +10,7 @@ use Rattle.reckoning.specs.declared.data.Year.{Year}
 use Rattle.reckoning.specs.Requests.{yearOf, sheetOf, daysOf}
 use Rattle.reckoning.specs.YearValue.{headIn, numberIn, leapIn, remainderIn, heldIn}
 use Rattle.text.specs.Piece.{word, field, year, month, numbered, line, lastField, toldUnless, textsUpTo}
-use Rattle.pages.specs.declared.lunar.ToldMonth.{ToldMonth}
+use Rattle.pages.specs.declared.months.ToldMonth.{ToldMonth}
 use Rattle.pages.specs.declared.steps.Steps.the-variants.{Qi}
 use Rattle.pages.specs.StepLines.{stepLines}
 
@@ -56,10 +56,6 @@ monthLines months = textsUpTo (monthAt months) (months .count)
 unfoldable pub nextLine : Year → List ℕ
 nextLine months = line (110 ∷ 101 ∷ 120 ∷ 116 ∷ []) (headIn months (months .count) ∷ [])
 
--- The months, and where the next year begins.
-unfoldable pub lunarLines : Year → List ℕ
-lunarLines months = monthLines months ++ nextLine months
-
 -- The name of day i, from 0.
 abbrev pub nameAt : Sheet → ℕ → List ℕ
 nameAt sheet i = field (getD (sheet .names) i 0)
@@ -75,7 +71,7 @@ namesLine sheet days = word (110 ∷ 97 ∷ 109 ∷ 101 ∷ 115 ∷ []) ++ (shee
 unfoldable pub yearLines : ℕ → ℕ → Year → ℕ → Sheet → List ℕ
 yearLines system year months days sheet =
     yearLine system year (months .count) days
-    ++ (stepLines Qi 25 system year ++ (lunarLines months ++ namesLine sheet days))
+    ++ (stepLines Qi 25 system year ++ (monthLines months ++ (nextLine months ++ namesLine sheet days)))
 
 -- The page of a year, or the line of its refusal.
 unfoldable pub pageOf : ℕ → ℕ → List ℕ

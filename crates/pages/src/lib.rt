@@ -8,7 +8,7 @@ ghost use Rattle.pages.specs.Page.{pageOf};
 ghost use Rattle.pages.specs.PentadPages.{pentadsPage, pentadLine};
 use calendar::data::RegisterDay;
 
-mod lunar;
+mod months;
 mod names;
 mod pentads;
 mod steps;

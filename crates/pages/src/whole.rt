@@ -4,7 +4,7 @@ ghost use lib.ListN.{length};
 ghost use Rattle.text.specs.Wrote.{Wrote};
 ghost use Rattle.pages.specs.Printable.{Printable};
 ghost use Rattle.pages.specs.Page.{yearLine, sheetNames, namesLine, yearLines, pageOf};
-use crate::lunar;
+use crate::months;
 use crate::steps;
 use crate::steps::Steps;
 use reckoning::data::Sheet;
@@ -64,7 +64,8 @@ fn year_lines(
 {
     let at = year_line(out, at, system, year, months.count, days);
     let at = steps::lines(out, at, Steps::Qi, 25, system, year);
-    let at = lunar::lines(out, at, months);
+    let at = months::lines(out, at, months);
+    let at = months::next_line(out, at, months);
     names_line(out, at, sheet, days)
 }
 

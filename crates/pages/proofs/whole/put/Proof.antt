@@ -1,6 +1,6 @@
 use native.Mathlib.Omega.{arith}
 use Rattle.text.proofs.Putting.{all-put, put-last}
-use Rattle.pages.proofs.Months.{printable, days-within}
+use Rattle.pages.proofs.YearAsked.{printable, days-within}
 use Rattle.pages.proofs.PageText.{put-refused, wrote-page}
 use borrow.Author.Needs.{needs}
 use Rattle.pages.proofs.whole.put.Statement.{statement}

@@ -13,6 +13,9 @@ lines-requires c κs = search needs
 lines-requires-2 : tie.Need-lines-requires-2
 lines-requires-2 c κs = search needs
 
+next-line-requires : tie.Need-next-line-requires
+next-line-requires c κs = search needs
+
 names-line-requires : tie.Need-names-line-requires
 names-line-requires c κs = search needs
 
@@ -20,7 +23,14 @@ same-length : tie.Need-same-length
 same-length c = search needs
 
 returns : tie.Need-returns
-returns c = (search wrote-year-lines, omega arith)
+returns c =
+    let names = c .before .before in
+    let next = names .before .before .before .before in
+    let months = next .before .before .before .before in
+    let qi = months .before .before .before .before in
+    let year = qi .before .before .before .before .year-line .ensures .0 in
+    let lines = wrote-year-lines _ _ _ _ _ year (qi .lines .ensures .0) (months .lines2 .ensures .0) (next .next-line .ensures .0) (names .names-line .ensures .0) in
+    (lines, omega arith)
 
 pub year-lines-spec : {M : Type 1} → statement M
 year-lines-spec =
@@ -29,6 +39,7 @@ year-lines-spec =
     year-line-requires
     lines-requires
     lines-requires-2
+    next-line-requires
     names-line-requires
     same-length
     returns)

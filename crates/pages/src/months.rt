@@ -1,10 +1,10 @@
-// The lines of a year's months, and the head of the next year.
+// The lines of a year's months, and of the next year's head.
 ghost use mathlib.Core.Path.{_≡_};
 ghost use Prim.Native.Nat.{_+_, _≤_, _<_};
 ghost use lib.ListN.{length};
 ghost use Rattle.text.specs.Wrote.{Wrote};
 ghost use Rattle.pages.specs.Printable.{Printable};
-ghost use Rattle.pages.specs.Page.{toldMonth, monthStart, monthLine, monthLines, nextLine, lunarLines};
+ghost use Rattle.pages.specs.Page.{toldMonth, monthStart, monthLine, monthLines, nextLine};
 use crate::names::name;
 use reckoning::data::NONE_HELD;
 use reckoning::data::Year;
@@ -67,7 +67,7 @@ fn month_line(out: &mut [u8], at: usize, month: ToldMonth) -> usize
     text::last_field(out, at, month.held == NONE_HELD, month.held as u32)
 }
 
-fn month_lines(out: &mut [u8], start: usize, months: Year) -> usize
+pub(crate) fn lines(out: &mut [u8], start: usize, months: Year) -> usize
     requires { ⌜ (start + 1092 ≤ length (now out)) × Printable months ⌝ }
     ensures { λ r. ⌜ Wrote (now (out .entry)) start (monthLines months) (now (out .exit)) r × (r ≤ start + 1092) ⌝ }
 {
@@ -81,7 +81,7 @@ fn month_lines(out: &mut [u8], start: usize, months: Year) -> usize
     at
 }
 
-fn next_line(out: &mut [u8], at: usize, months: Year) -> usize
+pub(crate) fn next_line(out: &mut [u8], at: usize, months: Year) -> usize
     requires { ⌜ (at + 16 ≤ length (now out)) × Printable months ⌝ }
     ensures { λ r. ⌜ Wrote (now (out .entry)) at (nextLine months) (now (out .exit)) r × (r ≤ at + 16) ⌝ }
 {
@@ -89,13 +89,4 @@ fn next_line(out: &mut [u8], at: usize, months: Year) -> usize
     let head = months.heads[count];
     let numbers = [head.0];
     text::line(out, at, b"next", &numbers)
-}
-
-// The months of a year, and where the next begins.
-pub(crate) fn lines(out: &mut [u8], at: usize, months: Year) -> usize
-    requires { ⌜ (at + 1108 ≤ length (now out)) × Printable months ⌝ }
-    ensures { λ r. ⌜ Wrote (now (out .entry)) at (lunarLines months) (now (out .exit)) r × (r ≤ at + 1108) ⌝ }
-{
-    let at = month_lines(out, at, months);
-    next_line(out, at, months)
 }

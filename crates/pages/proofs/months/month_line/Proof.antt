@@ -2,8 +2,8 @@ use native.Mathlib.Omega.{arith}
 use Rattle.text.proofs.Putting.{all-put}
 use Rattle.pages.proofs.PageText.{put-month-line}
 use borrow.Author.Needs.{needs}
-use Rattle.pages.proofs.lunar.month_line.Statement.{statement}
-use Rattle.pages.proofs.lunar.month_line.Tie as tie
+use Rattle.pages.proofs.months.month_line.Statement.{statement}
+use Rattle.pages.proofs.months.month_line.Tie as tie
 
 month-start-requires : tie.Need-month-start-requires
 month-start-requires c κs = search needs

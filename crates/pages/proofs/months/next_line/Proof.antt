@@ -2,8 +2,8 @@ use native.Mathlib.Omega.{arith}
 use Rattle.text.proofs.Putting.{all-put, put-last}
 use Rattle.pages.proofs.PageText.{put-next}
 use borrow.Author.Needs.{needs}
-use Rattle.pages.proofs.lunar.next_line.Statement.{statement}
-use Rattle.pages.proofs.lunar.next_line.Tie as tie
+use Rattle.pages.proofs.months.next_line.Statement.{statement}
+use Rattle.pages.proofs.months.next_line.Tie as tie
 
 cast-count : tie.Need-cast-count
 cast-count c = search needs

@@ -2,8 +2,8 @@ use native.Mathlib.Omega.{arith}
 use Rattle.text.proofs.Putting.{all-put}
 use Rattle.pages.proofs.PageText.{put-month-start}
 use borrow.Author.Needs.{needs}
-use Rattle.pages.proofs.lunar.month_start.Statement.{statement}
-use Rattle.pages.proofs.lunar.month_start.Tie as tie
+use Rattle.pages.proofs.months.month_start.Statement.{statement}
+use Rattle.pages.proofs.months.month_start.Tie as tie
 
 slice-aggregate-numbered : tie.Need-slice-aggregate-numbered
 slice-aggregate-numbered c = search needs

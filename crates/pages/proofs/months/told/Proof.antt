@@ -1,8 +1,8 @@
-use Rattle.pages.proofs.Months.{head-rises}
+use Rattle.pages.proofs.YearAsked.{head-rises}
 use Rattle.pages.proofs.PageText.{told-named}
 use borrow.Author.Needs.{needs}
-use Rattle.pages.proofs.lunar.told.Statement.{statement}
-use Rattle.pages.proofs.lunar.told.Tie as tie
+use Rattle.pages.proofs.months.told.Statement.{statement}
+use Rattle.pages.proofs.months.told.Tie as tie
 
 mul-head : tie.Need-mul-head
 mul-head c = search needs

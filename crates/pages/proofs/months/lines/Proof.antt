@@ -7,8 +7,8 @@ use Rattle.pages.specs.Page.{monthAt}
 use Rattle.text.proofs.Writing.{wrote-no-texts}
 use Rattle.pages.proofs.PageText.{wrote-month-more, wrote-month-lines}
 use borrow.Author.Needs.{needs}
-use Rattle.pages.proofs.lunar.month_lines.Statement.{statement}
-use Rattle.pages.proofs.lunar.month_lines.Tie as tie
+use Rattle.pages.proofs.months.lines.Statement.{statement}
+use Rattle.pages.proofs.months.lines.Tie as tie
 
 abbrev Inv-loop : tie.InvT-loop
 Inv-loop out₀ start months count at₀ i₀ out at i =
@@ -44,8 +44,8 @@ same-length c = search needs
 returns : tie.Need-returns Inv-loop μ-loop
 returns c = (search wrote-month-lines, omega arith)
 
-pub month-lines-spec : {M : Type 1} → statement M
-month-lines-spec =
+pub lines-spec : {M : Type 1} → statement M
+lines-spec =
     tie.close
     (tie.spec
     Inv-loop
