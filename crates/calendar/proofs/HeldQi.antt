@@ -4,7 +4,6 @@ use mathlib.Core.Path.{_≡_, refl, subst, sym, ap, ap₂, _∙_}
 use mathlib.Core.Logic.{inl, inr, ⊎-elim, _↔_}
 use mathlib.Core.List.{List, [], _∷_, _++_, append-nil}
 use native.Mathlib.Nat.{div-add-mod', mod-lt}
-use native.Mathlib.Numerals.{add-one}
 use native.Mathlib.Omega.{arith}
 use borrow.Author.Tests.{eq-eqb, ne-eqb}
 use Rattle.calendar.specs.declared.data.Constants.{Constants}
@@ -14,7 +13,7 @@ use Rattle.calendar.specs.Month.{noneHeld, HeldTold, indexesTold}
 use Rattle.calendar.specs.Year.{Span, monthCount, InYear}
 use Rattle.calendar.specs.Consistent.{Consistent}
 use Rattle.calendar.specs.Calendar.{Calendar}
-use Rattle.calendar.specs.ClosedForms.{monthOfQi, qiOfMonth, leapMark, heldBy, heldIndex}
+use Rattle.calendar.specs.ClosedForms.{monthOfQi, leapMark, heldIndex}
 use Rattle.calendar.proofs.Rising.{by-order, rises-strictly, below-back}
 use Rattle.calendar.proofs.EveryCalendar.{count-least, held, qi-of-held, within-of-qi}
 use Rattle.calendar.proofs.Reckoned.{reckoned}
@@ -38,6 +37,11 @@ module _ (c : Constants) (ok : Consistent c) where
   pub remainder-below : (k : ℕ) → newMoonRemainder c k < c .lunar
   remainder-below k = mod-lt (newMoon c k) (ok .lunar-some)
 
+  none-is : (k : ℕ) → Lacks c k → heldIndex c k ≡ noneHeld
+  none-is k l =
+      let leap : 1 ≡ leapMark c k = mark-unique c ok (inr (refl, l)) in
+      simp (ne-eqb (leapMark c k) 0 (λ e. omega arith))
+
   -- Month k, of which year n's middle qi are told.
   module _ (n k : ℕ) where
     abbrev holds-some : (j : ℕ) → j < 12 → Holds c k n j → HoldsSome c k
@@ -50,25 +54,20 @@ module _ (c : Constants) (ok : Consistent c) where
         let last = qi-of-held K (12 * n + j) k (month-of-held c ok k n j h) in
         simp (eq-eqb (leapMark c k) 0 (sym ordinary)) (omega arith)
 
-    none-is : Lacks c k → heldIndex c k ≡ noneHeld
-    none-is l =
-        let leap : 1 ≡ leapMark c k = mark-unique c ok (inr (refl, l)) in
-        simp (ne-eqb (leapMark c k) 0 (λ e. omega arith))
-
-    pub held-told : InYear c n k → HeldTold c n k (heldIndex c k)
+    pub held-told : InYear c n k → HeldTold c k n (heldIndex c k)
     held-told i =
         ⊎-elim
         (λ p.
         let h = p .1 in
         let here : Holds c k n (h .index) = subst (λ m. Holds c k m (h .index)) (qi-of-its-year c ok n k i h) (h .holds) in
-        subst (HeldTold c n k) (sym (index-is (h .index) (h .is-middle) here)) (inl (h .is-middle, here)))
-        (λ p. inr (none-is (p .1), p .1))
+        subst (HeldTold c k n) (sym (index-is (h .index) (h .is-middle) here)) (inl (h .is-middle, here)))
+        (λ p. inr (none-is k (p .1), p .1))
         (marked c ok k)
 
     -- and no other.
-    module _ {told : ℕ} (t : HeldTold c n k told) where
+    module _ {told : ℕ} (t : HeldTold c k n told) where
       pub told-unique : told ≡ heldIndex c k
-      told-unique = ⊎-elim (λ p. sym (index-is told (p .0) (p .1))) (λ p. p .0 ∙ sym (none-is (p .1))) t
+      told-unique = ⊎-elim (λ p. sym (index-is told (p .0) (p .1))) (λ p. p .0 ∙ sym (none-is k (p .1))) t
 
       -- Leap exactly when none is held.
       pub leap-just-when-none : {mark : ℕ} → Marked c k mark → (mark ≡ 1) ↔ (told ≡ noneHeld)
@@ -81,12 +80,12 @@ module _ (c : Constants) (ok : Consistent c) where
         λ e. ⊎-elim (λ p. absurd (omega (arith, p .0))) (λ p. ⊎-elim (λ q. absurd (p .1 (q .1))) (λ q. q .0) m) t,
       )
 
-      -- The number of a month that holds one is that of its index.
-      pub number-by-index : {number : ℕ} → Bears c k number → told < 12 → number ≡ numberOf told
-      number-by-index b l =
+      -- A month that holds one has an index, and the index's number.
+      pub number-by-index : {number : ℕ} → Bears c k number → HoldsSome c k → (told < 12) × (number ≡ numberOf told)
+      number-by-index b h =
           ⊎-elim
-          (λ p. number-unique c ok b ∙ sym (number-of-held c ok (holds-some told (p .0) (p .1))))
-          (λ p. absurd (omega (arith, p .0)))
+          (λ p. (p .0, number-unique c ok b ∙ sym (number-of-held c ok (holds-some told (p .0) (p .1)))))
+          (λ p. absurd (p .1 h))
           t
 
   -- Each index is held by one month of the year, and later months hold later ones.
@@ -108,20 +107,20 @@ module _ (c : Constants) (ok : Consistent c) where
       )
 
   -- So over the months of a year what is told rises from 0 to 11 without a gap.
-  module _ {n : ℕ} (y : Span c n) (told : ℕ → ℕ) (is : (i : ℕ) → i < monthCount y → HeldTold c n (y .first + i) (told i)) where
+  module _ {n : ℕ} (y : Span c n) (told : ℕ → ℕ) (is : (i : ℕ) → i < monthCount y → HeldTold c (y .first + i) n (told i)) where
     abbrev month : ℕ → ℕ
     month j = monthOfQi c (12 * n + j)
 
     -- The first i months hold the indexes below `next`, whose month comes after them.
-    record Passed (i : ℕ) : Type 0 where
+    record HeldSoFar (i : ℕ) : Type 0 where
       next : ℕ
       indexes : indexesTold told i ≡ upTo next
       after : y .first + i ≤ month next
       before : (j : ℕ) → j < next → month j < y .first + i
 
-    none-passed : Passed 0
+    held-none : HeldSoFar 0
     unfolding upTo indexesTold
-    none-passed =
+    held-none =
         let e : 12 * n + 0 ≡ 12 * n = omega arith in
         record {
           next = 0;
@@ -131,7 +130,7 @@ module _ (c : Constants) (ok : Consistent c) where
         }
 
     -- A month that holds an index holds the next one;
-    held-is-next : {i : ℕ} (p : Passed i) → Holds c (y .first + i) n (told i) → told i ≡ p .next
+    held-is-next : {i : ℕ} (p : HeldSoFar i) → Holds c (y .first + i) n (told i) → told i ≡ p .next
     held-is-next {i} p h =
         let here : month (told i) ≡ y .first + i = month-of-held c ok (y .first + i) n (told i) h in
         by-order (told i) (p .next)
@@ -143,7 +142,7 @@ module _ (c : Constants) (ok : Consistent c) where
         absurd (omega (arith, p .after)))
         (λ m. omega arith))
 
-    one-more : {i : ℕ} (p : Passed i) → told i < 12 → Holds c (y .first + i) n (told i) → Passed (suc i)
+    one-more : {i : ℕ} (p : HeldSoFar i) → told i < 12 → Holds c (y .first + i) n (told i) → HeldSoFar (suc i)
     unfolding upTo indexesTold
     one-more {i} p l h =
         let same = held-is-next p h in
@@ -160,7 +159,7 @@ module _ (c : Constants) (ok : Consistent c) where
         }
 
     -- one that holds none is passed over.
-    passed-over : {i : ℕ} (p : Passed i) → told i ≡ noneHeld → Lacks c (y .first + i) → Passed (suc i)
+    passed-over : {i : ℕ} (p : HeldSoFar i) → told i ≡ noneHeld → Lacks c (y .first + i) → HeldSoFar (suc i)
     unfolding indexesTold
     passed-over {i} p none lacks =
         let not-here : month (p .next) ≡ y .first + i → ⊥ =
@@ -173,16 +172,16 @@ module _ (c : Constants) (ok : Consistent c) where
           before = λ j l. omega (arith, p .before j l);
         }
 
-    passed : (i : ℕ) → i ≤ monthCount y → Passed i
-    passed zero l = none-passed
-    passed (suc i) l =
-        let p = passed i (omega arith) in
+    held-so-far : (i : ℕ) → i ≤ monthCount y → HeldSoFar i
+    held-so-far zero l = held-none
+    held-so-far (suc i) l =
+        let p = held-so-far i (omega arith) in
         ⊎-elim (λ h. one-more p (h .0) (h .1)) (λ h. passed-over p (h .0) (h .1)) (is i (omega arith))
 
     pub indexes-all-told : indexesTold told (monthCount y) ≡ 0 ∷ 1 ∷ 2 ∷ 3 ∷ 4 ∷ 5 ∷ 6 ∷ 7 ∷ 8 ∷ 9 ∷ 10 ∷ 11 ∷ []
     unfolding upTo
     indexes-all-told =
-        let p = passed (monthCount y) (omega arith) in
+        let p = held-so-far (monthCount y) (omega arith) in
         let e : 12 * (n + 1) ≡ 12 * n + 12 = omega arith in
         let end : y .first + monthCount y ≡ month 12 =
         omega (arith, span-first c ok y, span-next c ok y, count-least K n, ap (monthOfQi c) e)

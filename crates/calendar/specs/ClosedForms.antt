@@ -70,6 +70,7 @@ leapMark c k = k - monthOfQi c (qiOfMonth c k)
 abbrev pub heldBy : ℕ → ℕ → ℕ
 heldBy mark g = cond (eqb mark 0) (g % 12) noneHeld
 
+-- The same of month k.
 abbrev pub heldIndex : Constants → ℕ → ℕ
 heldIndex c k = heldBy (leapMark c k) (qiOfMonth c k)
 

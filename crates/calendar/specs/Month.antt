@@ -65,15 +65,15 @@ pub data Bears (c : Constants) : ℕ → ℕ → Type 0 where
 abbrev pub Marked : Constants → ℕ → ℕ → Type 0
 Marked c k mark = ((mark ≡ 0) × HoldsSome c k) ⊎ ((mark ≡ 1) × Lacks c k)
 
--- Paper 02, Q-9, the mark that a month holds no middle qi: no index is so large.
+-- Paper 02, Q-9, a mark that a month holds no middle qi. The number is ours, and is no index.
 abbrev pub noneHeld : ℕ
 noneHeld = 255
 
 -- What is told of the middle qi of year n that month k holds: its index, 0 to 11; the mark if the month lacks one.
 abbrev pub HeldTold : Constants → ℕ → ℕ → ℕ → Type 0
-HeldTold c n k told = ((told < 12) × Holds c k n told) ⊎ ((told ≡ noneHeld) × Lacks c k)
+HeldTold c k n told = ((told < 12) × Holds c k n told) ⊎ ((told ≡ noneHeld) × Lacks c k)
 
--- The indexes that are told of so many months, in order; months that hold none are passed over.
+-- With `told i` told of month i, from 0: the indexes told of the first so many months, in order; the mark is passed over.
 unfoldable pub indexesTold : (ℕ → ℕ) → ℕ → List ℕ
 indexesTold told zero = []
 indexesTold told (suc i) = indexesTold told i ++ cond (eqb (told i) noneHeld) [] (told i ∷ [])

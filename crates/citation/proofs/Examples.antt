@@ -40,7 +40,7 @@ pub data Question : Type 0 where
   Number : ℕ → ℕ → ℕ → Question
   Month : ℕ → ℕ → ℕ → Question
   -- what is told beside it: its new moon's remainder, and the index of the middle qi that it holds, 255 for none
-  Beside : ℕ → ℕ → ℕ → Question
+  RemainderAndHeld : ℕ → ℕ → ℕ → Question
   -- a citation, with an output of ten bytes or of nine: its refusal and the month told; the answer to C; its stored
   -- record
   Refusal : List ℕ → Question
@@ -78,7 +78,7 @@ answer (Number system year place) =
     let v = yearOf system year in (numberIn v (place - 1)) ∷ (leapIn v (place - 1)) ∷ []
 answer (Month system year place) =
     let v = yearOf system year in (headIn v (place - 1)) ∷ (headIn v place - headIn v (place - 1)) ∷ []
-answer (Beside system year place) =
+answer (RemainderAndHeld system year place) =
     let v = yearOf system year in (remainderIn v (place - 1)) ∷ (heldIn v (place - 1)) ∷ []
 answer (Refusal s) = refusalOf s 10 ∷ toldOf s ∷ []
 answer (RefusalOfNine s) = refusalOf s 9 ∷ toldOf s ∷ []
@@ -282,25 +282,25 @@ table =
     -- before its new moon on one day; new moons are 29 days and 6,383 parts apart; the next year's head has nothing
     -- beside it
     ∷ (Qi 1 1094 12 gives (0 ∷ 2_120_808 ∷ 38 ∷ 3630 ∷ 0 ∷ []))
-    ∷ (Beside 1 1094 6 gives (2970 ∷ 5 ∷ []))
-    ∷ (Beside 1 1094 7 gives (9353 ∷ 255 ∷ []))
-    ∷ (Beside 1 1094 8 gives (3706 ∷ 6 ∷ []))
-    ∷ (Beside 1 1094 13 gives (11_561 ∷ 11 ∷ []))
-    ∷ (Beside 1 1094 14 gives (0 ∷ 255 ∷ []))
+    ∷ (RemainderAndHeld 1 1094 6 gives (2970 ∷ 5 ∷ []))
+    ∷ (RemainderAndHeld 1 1094 7 gives (9353 ∷ 255 ∷ []))
+    ∷ (RemainderAndHeld 1 1094 8 gives (3706 ∷ 6 ∷ []))
+    ∷ (RemainderAndHeld 1 1094 13 gives (11_561 ∷ 11 ∷ []))
+    ∷ (RemainderAndHeld 1 1094 14 gives (0 ∷ 255 ∷ []))
     -- leap 10 of Jiyuan 1107 is its last month, twelve of 29 days and 3,868 parts after the first
-    ∷ (Beside 2 1107 1 gives (146 ∷ 0 ∷ []))
-    ∷ (Beside 2 1107 12 gives (6244 ∷ 11 ∷ []))
-    ∷ (Beside 2 1107 13 gives (2822 ∷ 255 ∷ []))
-    ∷ (Beside 2 1107 14 gives (0 ∷ 255 ∷ []))
+    ∷ (RemainderAndHeld 2 1107 1 gives (146 ∷ 0 ∷ []))
+    ∷ (RemainderAndHeld 2 1107 12 gives (6244 ∷ 11 ∷ []))
+    ∷ (RemainderAndHeld 2 1107 13 gives (2822 ∷ 255 ∷ []))
+    ∷ (RemainderAndHeld 2 1107 14 gives (0 ∷ 255 ∷ []))
     -- Jingchu's are the moon's parts, 4,559 to a day, and rise by 29 days and 2,419 parts; of twelve months the
     -- thirteenth place has the next year's head
-    ∷ (Beside 3 237 1 gives (3915 ∷ 0 ∷ []))
-    ∷ (Beside 3 237 2 gives (1775 ∷ 1 ∷ []))
-    ∷ (Beside 3 237 12 gives (3170 ∷ 11 ∷ []))
-    ∷ (Beside 3 237 13 gives (0 ∷ 255 ∷ []))
+    ∷ (RemainderAndHeld 3 237 1 gives (3915 ∷ 0 ∷ []))
+    ∷ (RemainderAndHeld 3 237 2 gives (1775 ∷ 1 ∷ []))
+    ∷ (RemainderAndHeld 3 237 12 gives (3170 ∷ 11 ∷ []))
+    ∷ (RemainderAndHeld 3 237 13 gives (0 ∷ 255 ∷ []))
     -- refused
-    ∷ (Beside 4 1094 1 gives (0 ∷ 255 ∷ []))
-    ∷ (Beside 1 3001 1 gives (0 ∷ 255 ∷ []))
+    ∷ (RemainderAndHeld 4 1094 1 gives (0 ∷ 255 ∷ []))
+    ∷ (RemainderAndHeld 1 3001 1 gives (0 ∷ 255 ∷ []))
     ∷ []
 
 pub examples : map asked table ≡ map expected table

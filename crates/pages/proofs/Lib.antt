@@ -7,3 +7,5 @@ pub mod StepText
 pub mod PentadText
 -- The text of a page from its pieces.
 pub mod PageText
+-- Two lines, computed.
+pub mod Examples

@@ -19,7 +19,7 @@ unfoldable pub yearLine : ℕ → ℕ → ℕ → ℕ → List ℕ
 yearLine system n months days = word (121 ∷ 101 ∷ 97 ∷ 114 ∷ 32 ∷ []) ++ (year system n ++ line [] (months ∷ days ∷ []))
 
 -- What is told of the month at index i, from 0: its place from 1, number and leap mark, its head with its name, how many
--- days it has, the remainder of its new moon, and the index of the middle qi that it holds.
+-- days it has, the remainder of its new moon, and the index of the middle qi that it holds, or the mark of none.
 unfoldable pub toldMonth : Year → ℕ → ToldMonth
 toldMonth months i =
     let head = headIn months i in

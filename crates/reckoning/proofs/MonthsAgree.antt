@@ -6,7 +6,7 @@ use native.Mathlib.Omega.{arith}
 use Rattle.calendar.specs.declared.data.Constants.{Constants}
 use Rattle.calendar.specs.Systems.{constantsOf, yearsElapsed, IsRegisterDay}
 use Rattle.calendar.specs.Steps.{dayOf}
-use Rattle.calendar.specs.Month.{newMoon, newMoonRemainder, monthHead, middleQi, Lacks, indexesTold}
+use Rattle.calendar.specs.Month.{newMoon, monthHead, middleQi, HoldsSome, Lacks}
 use Rattle.calendar.specs.Consistent.{Consistent}
 use Rattle.calendar.specs.ClosedForms.{monthNumber}
 use Rattle.calendar.proofs.EachSystem.{consistent}
@@ -19,9 +19,12 @@ use Rattle.reckoning.specs.YearValue.{headIn, numberIn, leapIn, remainde
 use Rattle.reckoning.proofs.MonthsRight.{head-upto, head-after, year-holds}
 
 module _ (c : Constants) (ok : Consistent c) (n : ℕ) (v : Year) (y : ListsMonths c n v) where
-  -- A month with the leap mark lacks a middle qi.
+  -- What the leap mark stands for.
   lacks : (i : ℕ) → i < v .count → leapIn v i ≡ 1 → Lacks c (y .span .first + i)
   lacks i h e = ⊎-elim (λ p. absurd (omega (arith, p .0))) (λ p. p .1) (y .leap i h)
+
+  holds : (i : ℕ) → i < v .count → leapIn v i ≡ 0 → HoldsSome c (y .span .first + i)
+  holds i h e = ⊎-elim (λ p. p .1) (λ p. absurd (omega (arith, p .0))) (y .leap i h)
 
   leap-number : (i : ℕ) → i + 1 < v .count → leapIn v (i + 1) ≡ 1 → numberIn v (i + 1) ≡ numberIn v i
   leap-number i h leap =
@@ -32,17 +35,17 @@ module _ (c : Constants) (ok : Consistent c) (n : ℕ) (v : Year) (y : ListsMont
       ∙ number-of-lacking c ok k (subst (λ l. Lacks c l) e (lacks (i + 1) h leap))
       ∙ sym (number-unique c ok (y .number i (omega arith)))
 
-  qi-inside : (i r : ℕ) → i < v .count → heldIn v i < 12
+  qi-inside : (i r : ℕ) → i < v .count → leapIn v i ≡ 0
       → IsRegisterDay c r (dayOf c (c .units) (middleQi c n (heldIn v i)))
       → (headIn v i ≤ r) × (r < headIn v (i + 1))
-  qi-inside i r h some is-day =
+  qi-inside i r h ordinary is-day =
       ⊎-elim
       (λ p. (
         omega (arith, p .1 .0, head-upto c ok n v y i (omega arith)),
         omega (arith, p .1 .1, head-after c ok n v y i h),
       ))
-      (λ p. absurd (omega (arith, p .0)))
-      (y .qi i h)
+      (λ p. absurd (p .1 (holds i h ordinary)))
+      (y .held i h)
 
   -- The new moon, by the count day of its head and its remainder.
   moon-is : (i d : ℕ) → i < v .count → IsRegisterDay c (headIn v i) d
@@ -55,10 +58,10 @@ module _ (c : Constants) (ok : Consistent c) (n : ℕ) (v : Year) (y : ListsMont
   pub agree : MonthsAgree c n v
   agree =
       record {
-        leap-just-when-none = λ i h. leap-just-when-none c ok n (y .span .first + i) (y .qi i h) (y .leap i h);
-        number-by-index = λ i h l. number-by-index c ok n (y .span .first + i) (y .qi i h) (y .number i h) l;
+        leap-just-when-none = λ i h. leap-just-when-none c ok n (y .span .first + i) (y .held i h) (y .leap i h);
+        number-by-index = λ i h e. number-by-index c ok n (y .span .first + i) (y .held i h) (y .number i h) (holds i h e);
         leap-number = leap-number;
-        indexes = rw (y .count) (indexes-all-told c ok (y .span) (heldIn v) (λ i h. y .qi i (omega (arith, y .count))));
+        indexes = rw (y .count) (indexes-all-told c ok (y .span) (heldIn v) (λ i h. y .held i (omega (arith, y .count))));
         qi-inside = qi-inside;
         moon-after = λ i d e h is-d is-e. omega (arith, moon-is i d (omega arith) is-d, moon-is (i + 1) e h is-e);
       }

@@ -26,7 +26,7 @@ use Rattle.reckoning.specs.WordBounds.{InRegister, YearInRegister}
 use Rattle.reckoning.specs.ComputedRefusals.{yearRefusal}
 use Rattle.reckoning.specs.Requests.{asRegisterDay, headAt, numberAt, leapAt, heldAt, noHeads, noNumbers, noQi}
 use Rattle.reckoning.specs.Requests.{monthsFrom, yearIn, noYear, yearOf}
-use Rattle.reckoning.specs.YearValue.{headIn, ListsMonths, Tiled}
+use Rattle.reckoning.specs.YearValue.{headIn, remainderIn, heldIn, ListsMonths, Tiled}
 use Rattle.reckoning.proofs.FilledLaws.{filled-below, filled-past, filled-length, replicate-reads}
 use Rattle.reckoning.proofs.RefusalCases.{accepted, in-scope}
 use Rattle.reckoning.proofs.ScopeInRegister.{year-in-register}
@@ -79,17 +79,17 @@ module _ (c : Constants) (n : ℕ) (r : YearInRegister c n) where
             let e = filled-below (leapAt c f) noNumbers 0 m i h (omega arith) in
             subst (Marked c (f + i)) (sym e) (marked c ok (f + i));
         remainder = λ i h. filled-below _ noNumbers 0 _ i (omega arith) (omega arith);
-        qi = λ i h.
+        held = λ i h.
             let told = filled-below (heldAt c f) noQi 0 m i h (omega arith) in
             let in-year : InYear c n (f + i) = record { span = span c ok n; from = omega arith; before = omega arith } in
-            subst (HeldTold c n (f + i)) (sym told) (held-told c ok n (f + i) in-year);
+            subst (λ x. HeldTold c (f + i) n x) (sym told) (held-told c ok n (f + i) in-year);
         unused-head = λ i h.
             let e = filled-past (headAt c f) noHeads (asRegisterDay 0) (m + 1) i (omega arith) in
             ap (λ d. d .0) (e ∙ replicate-reads (asRegisterDay 0) 14 i);
         unused-number = λ i h. filled-past (numberAt c f) noNumbers 0 m i h ∙ replicate-reads 0 14 i;
         unused-leap = λ i h. filled-past (leapAt c f) noNumbers 0 m i h ∙ replicate-reads 0 14 i;
         unused-remainder = λ i h. filled-past _ noNumbers 0 _ i (omega arith) ∙ replicate-reads 0 14 i;
-        unused-qi = λ i h l. filled-past _ noQi 0 _ i (omega arith) ∙ getD-replicate 14 i noneHeld 0 l;
+        unused-held = λ i h l. filled-past _ noQi 0 _ i (omega arith) ∙ getD-replicate 14 i noneHeld 0 l;
       }
 
 -- A value that holds the months of a year is tiled by them.
@@ -208,3 +208,18 @@ year-carries system year =
     (λ none.
     let zero-refusal : yearRefusal system year ≡ 0 = omega arith in
     (year-holds system year (accepted system year zero-refusal)) .accepted ∙ sym zero-refusal)
+
+-- Whatever is asked, unused places have remainder 0 and the mark that none is held: all places of a refused answer, and
+-- of any other those from the next year's head on.
+pub unused-places : (system year i : ℕ) → (yearOf system year) .count ≤ i → i < 14
+    → (remainderIn (yearOf system year) i ≡ 0) × (heldIn (yearOf system year) i ≡ noneHeld)
+unused-places system year i from below =
+    by-order 0 (yearRefusal system year)
+    (λ some.
+    let blank = year-blank system year (λ z. omega arith) in (
+      ap (λ v. remainderIn v i) blank ∙ replicate-reads 0 14 i,
+      ap (λ v. heldIn v i) blank ∙ getD-replicate 14 i noneHeld 0 below,
+    ))
+    (λ none.
+    let lists = year-holds system year (accepted system year (omega arith)) in
+    (lists .unused-remainder i from, lists .unused-held i from below))

@@ -30,7 +30,7 @@ abbrev pub heldIn : Year → ℕ → ℕ
 heldIn v i = getD (v .held) i 0
 
 -- The value holds the months of year n by the reckoning: their count, in order each head, number, leap mark, new moon's
--- remainder and middle qi held, then the next year's head; unused places are 0, and hold no qi.
+-- remainder and middle qi held, then the next year's head; in unused places 0, and the mark that none is held.
 pub record ListsMonths (c : Constants) (n : ℕ) (v : Year) : Type 0 where
   pub accepted : v .refusal ≡ 0
   pub places : (length (v .heads) ≡ 14)
@@ -45,12 +45,12 @@ pub record ListsMonths (c : Constants) (n : ℕ) (v : Year) : Type 0 where
   pub number : (i : ℕ) → i < v .count → Bears c (span .first + i) (numberIn v i)
   pub leap : (i : ℕ) → i < v .count → Marked c (span .first + i) (leapIn v i)
   pub remainder : (i : ℕ) → i < v .count → remainderIn v i ≡ newMoonRemainder c (span .first + i)
-  pub qi : (i : ℕ) → i < v .count → HeldTold c n (span .first + i) (heldIn v i)
+  pub held : (i : ℕ) → i < v .count → HeldTold c (span .first + i) n (heldIn v i)
   pub unused-head : (i : ℕ) → v .count < i → headIn v i ≡ 0
   pub unused-number : (i : ℕ) → v .count ≤ i → numberIn v i ≡ 0
   pub unused-leap : (i : ℕ) → v .count ≤ i → leapIn v i ≡ 0
   pub unused-remainder : (i : ℕ) → v .count ≤ i → remainderIn v i ≡ 0
-  pub unused-qi : (i : ℕ) → v .count ≤ i → i < 14 → heldIn v i ≡ noneHeld
+  pub unused-held : (i : ℕ) → v .count ≤ i → i < 14 → heldIn v i ≡ noneHeld
 
 -- What demand 3 says of months, said of the value: twelve or thirteen months of 29 or 30 days tile the year's days;
 -- of twelve none has the leap mark, and of thirteen exactly one does.
@@ -66,15 +66,15 @@ pub record Tiled (v : Year) : Type 0 where
 pub record MonthsAgree (c : Constants) (n : ℕ) (v : Year) : Type 0 where
   -- leap exactly when none is held
   pub leap-just-when-none : (i : ℕ) → i < v .count → (leapIn v i ≡ 1) ↔ (heldIn v i ≡ noneHeld)
-  -- the number is that of the index held; a leap month has that of the month before it
-  pub number-by-index : (i : ℕ) → i < v .count → heldIn v i < 12 → numberIn v i ≡ numberOf (heldIn v i)
+  -- otherwise an index is told, 0 to 11, and the number is that of the index; a leap month has that of the month before
+  pub number-by-index : (i : ℕ) → i < v .count → leapIn v i ≡ 0 → (heldIn v i < 12) × (numberIn v i ≡ numberOf (heldIn v i))
   pub leap-number : (i : ℕ) → i + 1 < v .count → leapIn v (i + 1) ≡ 1 → numberIn v (i + 1) ≡ numberIn v i
   -- the indexes held rise from 0 to 11 without a gap, leap months passed over
   pub indexes : indexesTold (heldIn v) (v .count) ≡ 0 ∷ 1 ∷ 2 ∷ 3 ∷ 4 ∷ 5 ∷ 6 ∷ 7 ∷ 8 ∷ 9 ∷ 10 ∷ 11 ∷ []
   -- the day of the middle qi held, told as a register day, lies between the heads
-  pub qi-inside : (i r : ℕ) → i < v .count → heldIn v i < 12
+  pub qi-inside : (i r : ℕ) → i < v .count → leapIn v i ≡ 0
       → IsRegisterDay c r (dayOf c (c .units) (middleQi c n (heldIn v i)))
       → (headIn v i ≤ r) × (r < headIn v (i + 1))
-  -- from one new moon to the next, by the count days of their heads and their remainders, are M parts
+  -- from one new moon of the year to the next, by the count days of their heads and their remainders, are M parts
   pub moon-after : (i d e : ℕ) → i + 1 < v .count → IsRegisterDay c (headIn v i) d → IsRegisterDay c (headIn v (i + 1)) e
       → e * c .lunar + remainderIn v (i + 1) ≡ d * c .lunar + remainderIn v i + c .month

@@ -22,7 +22,8 @@ pub const NONE_HELD: u8 = 255;
 
 // The months of a year: `count` of them, 12 or 13, or 0 when refused. Their heads stand in order, the next year's head
 // after them; beside each month's head its number and leap mark, the remainder of its new moon in lunar parts, and the
-// index, 0 to 11, of the middle qi that it holds, or NONE_HELD. Unused places are 0, those of the qi held NONE_HELD.
+// index, 0 to 11, of the middle qi that it holds, or NONE_HELD. Unused places are 0, in `held` NONE_HELD, and so is what
+// stands beside the next year's head.
 pub struct Year {
     pub refusal: u8,
     pub count: u8,

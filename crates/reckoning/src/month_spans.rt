@@ -1,5 +1,5 @@
-// Months with their bounds: that of a day, of a middle qi or of a year's beginning, and the next; a month's new moon and
-// its last middle qi.
+// Months with their bounds: that of a day, of a middle qi or of a year's beginning, and the next; the remainder of a
+// month's new moon, and its last middle qi.
 ghost use mathlib.Core.Path.{_≡_};
 ghost use Prim.Native.Nat.{_+_, _<_, _^_};
 ghost use Rattle.calendar.specs.Month.{newMoonRemainder};

@@ -126,7 +126,7 @@ wrote-numbered bytes n w v = wrote-then w v
 -- The last field of a line, by whether there is a number.
 pub wrote-dash : {b a : List ℕ} {at e : ℕ} {none : Bool} (n : ℕ) → none ≡ true → Wrote b at (word (32 ∷ 45 ∷ newline)) a e
     → Wrote b at (lastField none n) a e
-unfolding lastField
+unfolding lastField word
 wrote-dash n e w = rw e w
 
 pub wrote-last : {b m a : List ℕ} {at p e : ℕ} {none : Bool} (n : ℕ) → none ≡ false → Wrote b at (field n) m p

@@ -32,7 +32,7 @@ line bytes numbers = word bytes ++ (fields numbers ++ newline)
 
 -- The last field of a line: a space and a number, or '-' where there is none; and the line's end.
 unfoldable pub lastField : Bool → ℕ → List ℕ
-lastField none n = cond none (word (32 ∷ 45 ∷ newline)) (field n ++ newline)
+lastField none n = cond none (32 ∷ 45 ∷ []) (field n) ++ newline
 
 -- The letters of the systems, in the order of their numbers: G of Guantian, J of Jiyuan, W of Jingchu.
 abbrev pub letters : List ℕ
