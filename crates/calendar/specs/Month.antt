@@ -73,7 +73,7 @@ noneHeld = 255
 abbrev pub HeldTold : Constants → ℕ → ℕ → ℕ → Type 0
 HeldTold c k n told = ((told < 12) × Holds c k n told) ⊎ ((told ≡ noneHeld) × Lacks c k)
 
--- With `told i` told of month i, from 0: the indexes told of the first so many months, in order; the mark is passed over.
+-- With `told i` told of month i, from 0: the indexes told of so many months, in order; the mark is passed over.
 unfoldable pub indexesTold : (ℕ → ℕ) → ℕ → List ℕ
 indexesTold told zero = []
 indexesTold told (suc i) = indexesTold told i ++ cond (eqb (told i) noneHeld) [] (told i ∷ [])
