@@ -1,18 +1,17 @@
 -- The text of a page from its pieces.
-use Prim.Native.Nat.{ℕ, _+_, _*_, _-_, _≤_, _<_}
+use Prim.Native.Nat.{ℕ, _+_, _*_, _≤_, _<_}
 use mathlib.Core.Path.{_≡_, refl, subst, ap, ap₂}
 use mathlib.Core.Bool.{Bool}
 use mathlib.Core.List.{List, [], _∷_, _++_}
 use native.Mathlib.Omega.{arith}
 use lib.Dec.{eqb}
 use lib.ListN.{length}
-use Rattle.calendar.specs.SixtyDayName.{nameOf}
 use Rattle.calendar.specs.Month.{noneHeld}
 use Rattle.reckoning.specs.declared.data.Days.{Days}
 use Rattle.reckoning.specs.declared.data.Sheet.{Sheet}
 use Rattle.reckoning.specs.declared.data.Year.{Year}
 use Rattle.reckoning.specs.Requests.{yearOf, sheetOf, daysOf}
-use Rattle.reckoning.specs.YearValue.{headIn, numberIn, leapIn, remainderIn, heldIn}
+use Rattle.reckoning.specs.YearValue.{headIn}
 use Rattle.text.specs.Piece.{word, field, year, month, numbered, line, lastField, refusedLine, textsUpTo}
 use Rattle.text.specs.Put.{Put}
 use Rattle.text.specs.Wrote.{Wrote}
@@ -68,22 +67,7 @@ module _ {b a : List ℕ} {at e rooms : ℕ} where
   unfolding nextLine
   put-next months w = w
 
--- What is told of a month, its name by its head;
-pub told-named : {name : ℕ} (months : Year) (i : ℕ) → name ≡ nameOf (headIn months i)
-    → record {
-      place = i + 1;
-      number = numberIn months i;
-      leap = leapIn months i;
-      head = headIn months i;
-      name = name;
-      days = headIn months (i + 1) - headIn months i;
-      remainder = remainderIn months i;
-      held = heldIn months i;
-    } ≡ toldMonth months i
-unfolding toldMonth
-told-named months i is = rw is
-
--- and its line, in two parts.
+-- The line of a month, in two parts.
 pub put-month-start : {b m₁ m₂ m₃ a : List ℕ} {at p₁ p₂ p₃ e : ℕ} (m : ToldMonth)
     → Put b at 16 (numbered (109 ∷ 111 ∷ 110 ∷ 116 ∷ 104 ∷ []) (m .place)) m₁ p₁
     → Put m₁ p₁ 12 (month (m .number) (m .leap)) m₂ p₂

@@ -1,5 +1,5 @@
+use Rattle.pages.specs.Page.{toldMonth}
 use Rattle.pages.proofs.YearAsked.{head-rises}
-use Rattle.pages.proofs.PageText.{told-named}
 use borrow.Author.Needs.{needs}
 use Rattle.pages.proofs.months.told.Statement.{statement}
 use Rattle.pages.proofs.months.told.Tie as tie
@@ -47,7 +47,8 @@ name-requires : tie.Need-name-requires
 name-requires c κs = search needs
 
 returns : tie.Need-returns
-returns c = told-named _ _ (c .name .ensures)
+unfolding toldMonth
+returns c = rw (c .name .ensures)
 
 pub told-spec : {M : Type 1} → statement M
 told-spec =
