@@ -23,9 +23,10 @@ test_tools = build/independent build/store_check build/convert_check build/null_
 bench_tools = build/bench build/bench_heads build/c_program build/c_renew build/c_compare build/c_pentads
 # The longest first, so that two at a time end together.
 tests = tests/mixups.sh tests/program.sh tests/every_day.sh tests/convert.sh tests/renew.sh tests/every_year.sh \
-        tests/pipes.sh tests/damaged.sh tests/every_comparison.sh tests/every_pentad.sh tests/faults.sh tests/cases.sh \
-        tests/descriptors.sh tests/arguments.sh tests/manual.sh tests/install.sh tests/shared.sh tests/shared.py \
-        tests/header.sh tests/host.sh tests/printed_heads.sh build/null_check build/builders build/incident
+        tests/pipes.sh tests/damaged.sh tests/every_comparison.sh tests/every_submerged.sh tests/every_pentad.sh \
+        tests/faults.sh tests/cases.sh tests/descriptors.sh tests/arguments.sh tests/manual.sh tests/install.sh \
+        tests/shared.sh tests/shared.py tests/header.sh tests/host.sh tests/printed_heads.sh build/null_check \
+        build/builders build/incident
 crates := crates.txt $(shell find crates -name must-fail -prune -o -type f -print)
 
 # Two runs of rt at a time would share target/.
@@ -92,7 +93,7 @@ build:
 # What the runs of the programs stand on.
 build/proved: $(crates) | build
 	@echo "proving the libraries (what the prover says: build/proved.log)"
-	@rt check lines conversion pages comparison_pages arguments process < /dev/null > build/proved.log 2>&1 || \
+	@rt check lines conversion pages comparison_pages submerged_extinguished_pages arguments process < /dev/null > build/proved.log 2>&1 || \
 	    { cat build/proved.log >&2; exit 1; }
 	@touch $@
 

@@ -13,6 +13,7 @@ use crate::reckoning::{
 use crate::requests::{Answer, Number};
 use crate::retired_cases;
 use crate::streams::{citation_of, leap_marks, KINDS};
+use crate::submerged_cases;
 
 pub struct Checks {
     pub passed: u64,
@@ -50,6 +51,7 @@ pub fn run(tables: &Tables) -> Checks {
     jingchu_remainders(tables, &mut checks);
     retired_cases::run(tables, &mut checks);
     month_cases::run(tables, &mut checks);
+    submerged_cases::run(tables, &mut checks);
     for system in SYSTEMS {
         let table = tables.table(system.number).unwrap();
         facts(table, &mut checks);
@@ -339,7 +341,10 @@ fn around_ten(tables: &Tables, checks: &mut Checks) {
 
 /// Systems that there are not. Some would be if they were cut to 8, 32 or 64
 /// bits.
-const NO_SYSTEMS: [&str; 5] = ["0", "4", "259", "4294967297", "18446744073709551618"];
+pub const NO_SYSTEMS: [&str; 5] = ["0", "4", "259", "4294967297", "18446744073709551618"];
+
+/// Years that there are not, some of the same sort.
+pub const NO_YEARS: [&str; 5] = ["0", "3001", "66628", "4294968388", "18446744073709552708"];
 
 /// Every request by system and year refuses what there is not, the system
 /// first.
@@ -349,7 +354,7 @@ fn refused_by_year(checks: &mut Checks, request: &str, ask: impl Fn(&str, &str) 
             checks.same(&format!("{}, no such system", request), ask(system, year), Err(4));
         }
     }
-    for year in ["0", "3001", "66628", "4294968388", "18446744073709552708"] {
+    for year in NO_YEARS {
         for system in ["1", "2", "3"] {
             checks.same(&format!("{}, no such year", request), ask(system, year), Err(5));
         }

@@ -7,6 +7,7 @@ mod cases;
 mod citation;
 mod compare;
 mod conversion;
+mod fraction;
 mod heads;
 mod lines;
 mod month_cases;
@@ -17,6 +18,8 @@ mod renewal;
 mod requests;
 mod retired_cases;
 mod streams;
+mod submerged;
+mod submerged_cases;
 mod tally;
 
 use reckoning::{System, Table, Tables};
@@ -31,6 +34,8 @@ const USAGE: &str = "usage:
   independent compare FIRST SECOND YEAR [LAST]
   independent pentads SYSTEM YEAR [LAST]
   independent pentad SYSTEM DAY [LAST]
+  independent submerged SYSTEM YEAR [LAST]
+  independent extinguished SYSTEM YEAR [LAST]
   independent lines < records
   independent cuts LONGEST < records
   independent days SYSTEM
@@ -62,6 +67,10 @@ fn main() {
         ["pentads", system, year, last] => pentad_pages(system, year, last, &mut out),
         ["pentad", system, day] => pentad_lines(system, day, day, &mut out),
         ["pentad", system, day, last] => pentad_lines(system, day, last, &mut out),
+        ["submerged", system, year] => submerged_pages(system, year, year, &mut out),
+        ["submerged", system, year, last] => submerged_pages(system, year, last, &mut out),
+        ["extinguished", system, year] => extinguished_pages(system, year, year, &mut out),
+        ["extinguished", system, year, last] => extinguished_pages(system, year, last, &mut out),
         ["lines"] => lines::lines(&Tables::new(), &records(), &mut out),
         ["cuts", longest] => lines::cuts(&Tables::new(), &records(), word(longest), &mut out),
         ["days", system] => streams::days(&table(system), &mut out),
@@ -128,6 +137,17 @@ fn pentad_pages(system: &str, year: &str, last: &str, out: &mut impl Write) -> i
 fn pentad_lines(system: &str, day: &str, last: &str, out: &mut impl Write) -> io::Result<()> {
     let pentads = pentads::Pentads::asked(&number(system));
     answers(&number(day), &number(last), |day| pentads::in_force_line(&pentads, day), out)
+}
+
+fn submerged_pages(system: &str, year: &str, last: &str, out: &mut impl Write) -> io::Result<()> {
+    let system = number(system);
+    answers(&number(year), &number(last), |year| submerged::submerged_page(&system, year), out)
+}
+
+fn extinguished_pages(system: &str, year: &str, last: &str, out: &mut impl Write) -> io::Result<()> {
+    let (tables, system) = (Tables::new(), number(system));
+    let page = |year: &Number| submerged::extinguished_page(&tables, &system, year);
+    answers(&number(year), &number(last), page, out)
 }
 
 /// All of standard input.

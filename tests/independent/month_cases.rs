@@ -75,7 +75,7 @@ impl Told {
 }
 
 /// A number as it is printed, without leading noughts.
-fn whole(text: &str) -> Option<i128> {
+pub fn whole(text: &str) -> Option<i128> {
     text.parse().ok().filter(|number: &i128| number.to_string() == text)
 }
 

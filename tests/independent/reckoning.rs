@@ -136,7 +136,7 @@ impl System {
 
     /// The year's qi in order: the solstice first and qi 24, which is all of Y
     /// after it, last.
-    fn qi(&self, year: i128) -> Vec<Moment> {
+    pub fn qi(&self, year: i128) -> Vec<Moment> {
         (0..=QI).map(|i| self.step(year, i, QI, self.small_units_in_part)).collect()
     }
 

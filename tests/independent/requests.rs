@@ -62,6 +62,15 @@ pub fn system_asked(number: &Number) -> Result<u8, u8> {
     }
 }
 
+/// The same where only the two Song systems are known.
+pub fn song_system_asked(number: &Number) -> Result<u8, u8> {
+    match number.small() {
+        Some(1) => Ok(1),
+        Some(2) => Ok(2),
+        _ => Err(4),
+    }
+}
+
 /// The year asked for. 5: it is not one of those that may be asked for.
 pub fn year_asked(number: &Number) -> Result<i128, u8> {
     match number.small() {

@@ -11,8 +11,9 @@ use Rattle.text.proofs.Putting.{put-wrote}
 use Rattle.pages.specs.Page.{pageOf}
 use Rattle.pages.specs.PentadPages.{pentadsPage, pentadLine}
 use Rattle.comparison_pages.specs.ComparisonPage.{comparisonPage}
+use Rattle.submerged_extinguished_pages.specs.DistancePages.{submergedPage, extinguishedPage}
 use Rattle.almanac_run.specs.declared.range.Page.{Page}
-use Rattle.almanac_run.specs.declared.range.Page.the-variants.{Year, Pentads, Pentad}
+use Rattle.almanac_run.specs.declared.range.Page.the-variants.{Year, Pentads, Pentad, Submerged, Extinguished}
 use Rattle.almanac_run.specs.declared.range.Request.{Request}
 use Rattle.almanac_run.specs.declared.range.Request.the-variants.{BySystem, Compare}
 use Rattle.almanac_run.specs.Pages.{systemPage, requestedPage}
@@ -33,6 +34,14 @@ module _ {page : Page} {out out′ : List ℕ} {at end : ℕ} (system n : ℕ) w
   pub wrote-pentad : page ≡ Pentad → Put out at 35 (pentadLine system n) out′ end → at + 8192 ≤ length out
       → Wrote out at (systemPage page system n) out′ end
   wrote-pentad is p room = by-page is (put-wrote p (omega arith))
+
+  pub wrote-submerged : page ≡ Submerged → Put out at 1024 (submergedPage system n) out′ end → at + 8192 ≤ length out
+      → Wrote out at (systemPage page system n) out′ end
+  wrote-submerged is p room = by-page is (put-wrote p (omega arith))
+
+  pub wrote-extinguished : page ≡ Extinguished → Put out at 1024 (extinguishedPage system n) out′ end → at + 8192 ≤ length out
+      → Wrote out at (systemPage page system n) out′ end
+  wrote-extinguished is p room = by-page is (put-wrote p (omega arith))
 
 module _ {request : Request} {out out′ : List ℕ} {at end : ℕ} (n : ℕ) where
   pub wrote-by-system : {page : Page} {system : ℕ} → request ≡ BySystem page system

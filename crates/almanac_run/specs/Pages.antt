@@ -7,13 +7,14 @@ use lib.ListN.{length}
 use Rattle.text.specs.Wrote.{Wrote}
 use Rattle.almanac_run.specs.declared.range.Filled.{Filled}
 use Rattle.almanac_run.specs.declared.range.Page.{Page}
-use Rattle.almanac_run.specs.declared.range.Page.the-variants.{Year, Pentads, Pentad}
+use Rattle.almanac_run.specs.declared.range.Page.the-variants.{Year, Pentads, Pentad, Submerged, Extinguished}
 use Rattle.almanac_run.specs.declared.range.Request.{Request}
 use Rattle.almanac_run.specs.declared.range.Request.the-variants.{BySystem, Compare}
 use Rattle.arguments.specs.Number.{most}
 use Rattle.comparison_pages.specs.ComparisonPage.{comparisonPage}
 use Rattle.pages.specs.Page.{pageOf}
 use Rattle.pages.specs.PentadPages.{pentadsPage, pentadLine}
+use Rattle.submerged_extinguished_pages.specs.DistancePages.{submergedPage, extinguishedPage}
 use Rattle.text.specs.Piece.{textsUpTo}
 
 -- The number i after the first, as a number is told.
@@ -25,6 +26,8 @@ abbrev pub systemPage : Page → ℕ → ℕ → List ℕ
 systemPage Year system n = pageOf system n
 systemPage Pentads system n = pentadsPage system n
 systemPage Pentad system n = pentadLine system n
+systemPage Submerged system n = submergedPage system n
+systemPage Extinguished system n = extinguishedPage system n
 
 -- What is printed of a number.
 abbrev pub requestedPage : Request → ℕ → List ℕ

@@ -1,5 +1,6 @@
 // The run of the program almanac: `almanac year SYSTEM YEAR [LAST]`, `almanac pentads SYSTEM YEAR [LAST]`,
-// `almanac pentad SYSTEM DAY [LAST]` and `almanac compare FIRST SECOND YEAR [LAST]`.
+// `almanac pentad SYSTEM DAY [LAST]`, `almanac submerged SYSTEM YEAR [LAST]`, `almanac extinguished SYSTEM YEAR [LAST]` and
+// `almanac compare FIRST SECOND YEAR [LAST]`.
 ghost use mathlib.Core.Path.{_≡_};
 ghost use Rattle.process.specs.Exit.{misused, AnsweredOrFailed, Ended};
 use arguments::number;
@@ -35,7 +36,7 @@ fn misuse() -> u32
     ensures { λ r. ⌜ r ≡ misused ⌝ }
 {
     exit::misuse(
-        b"usage: almanac year SYSTEM YEAR [LAST] | almanac pentads SYSTEM YEAR [LAST] | almanac pentad SYSTEM DAY [LAST] | almanac compare FIRST SECOND YEAR [LAST] (see almanac --help)\n",
+        b"usage: almanac year SYSTEM YEAR [LAST] | almanac pentads SYSTEM YEAR [LAST] | almanac pentad SYSTEM DAY [LAST] | almanac submerged SYSTEM YEAR [LAST] | almanac extinguished SYSTEM YEAR [LAST] | almanac compare FIRST SECOND YEAR [LAST] (see almanac --help)\n",
     )
 }
 
@@ -90,6 +91,8 @@ fn help() -> u32
     let text = b"almanac year SYSTEM YEAR [LAST]\n\
         almanac pentads SYSTEM YEAR [LAST]\n\
         almanac pentad SYSTEM DAY [LAST]\n\
+        almanac submerged SYSTEM YEAR [LAST]\n\
+        almanac extinguished SYSTEM YEAR [LAST]\n\
         almanac compare FIRST SECOND YEAR [LAST]\n\
         almanac --help | --version\n\
         \n\
@@ -101,6 +104,10 @@ fn help() -> u32
         pentad prints the pentad in force at the end of the register day DAY, a Julian\n\
         Day Number, or of each day from DAY to LAST, with its year, which runs from\n\
         solstice to solstice.\n\
+        submerged prints, for each qi of YEAR, or of each year from YEAR to LAST, its\n\
+        register day and how many days after it its submerged day lies, or -;\n\
+        extinguished prints the same of the new moon of each month and its extinguished\n\
+        day. Only Guantian and Jiyuan have such days.\n\
         compare prints where the months of YEAR, or of each year from YEAR to LAST,\n\
         differ between the calendars with the numbers FIRST and SECOND.\n\
         In place of a page or line stands `refused 4` if there is no such calendar,\n\
@@ -141,6 +148,12 @@ pub extern "C" fn almanac_run(version: &[u8]) -> u32
     }
     if check::same(&verb[..n], b"pentad") {
         return system_pages(Page::Pentad, count);
+    }
+    if check::same(&verb[..n], b"submerged") {
+        return system_pages(Page::Submerged, count);
+    }
+    if check::same(&verb[..n], b"extinguished") {
+        return system_pages(Page::Extinguished, count);
     }
     if check::same(&verb[..n], b"compare") {
         return comparisons(count);

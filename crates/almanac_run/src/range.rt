@@ -10,12 +10,14 @@ use calendar::data::RegisterDay;
 use process::exit;
 use process::streams;
 
-// What is printed by one system: the page of a year, that of a year's pentads, or the line of the pentad in force on a
-// register day.
+// What is printed by one system: the page of a year, that of a year's pentads, the line of the pentad in force on a
+// register day, or the page of a year's submerged or extinguished days.
 pub(crate) enum Page {
     Year,
     Pentads,
     Pentad,
+    Submerged,
+    Extinguished,
 }
 
 // What is printed of each number: a page by a system, or two systems compared.
@@ -46,6 +48,8 @@ fn system_page(out: &mut [u8], at: usize, page: Page, system: u32, n: u32) -> us
         Page::Year => pages::page(out, at, system, n),
         Page::Pentads => pages::pentads_page(out, at, system, n),
         Page::Pentad => pages::pentad_line(out, at, system, RegisterDay(n)),
+        Page::Submerged => submerged_extinguished_pages::submerged_page(out, at, system, n),
+        Page::Extinguished => submerged_extinguished_pages::extinguished_page(out, at, system, n),
     }
 }
 

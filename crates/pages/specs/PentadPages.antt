@@ -3,18 +3,18 @@ use Prim.Native.Nat.{ℕ}
 use mathlib.Core.List.{List, [], _∷_, _++_}
 use Rattle.reckoning.specs.Requests.{pentadOf, pentadInForce}
 use Rattle.text.specs.Decimal.{decimal}
-use Rattle.text.specs.Piece.{word, letterOf, year, newline, line, toldUnless}
+use Rattle.text.specs.Piece.{word, letterOf, title, line, toldUnless}
 use Rattle.pages.specs.declared.steps.Steps.the-variants.{Pentads}
 use Rattle.pages.specs.StepLines.{stepLines}
 
--- "pentads ", then letter and year.
-unfoldable pub pentadsLine : ℕ → ℕ → List ℕ
-pentadsLine system n = word (112 ∷ 101 ∷ 110 ∷ 116 ∷ 97 ∷ 100 ∷ 115 ∷ 32 ∷ []) ++ (year system n ++ word newline)
+-- "pentads "
+abbrev pub pentadsWord : List ℕ
+pentadsWord = 112 ∷ 101 ∷ 110 ∷ 116 ∷ 97 ∷ 100 ∷ 115 ∷ 32 ∷ []
 
 -- The 72 pentads of a year, or the line of its refusal.
 unfoldable pub pentadsPage : ℕ → ℕ → List ℕ
 pentadsPage system year =
-    toldUnless ((pentadOf system year 0) .refusal) (pentadsLine system year ++ stepLines Pentads 72 system year)
+    toldUnless ((pentadOf system year 0) .refusal) (title pentadsWord system year ++ stepLines Pentads 72 system year)
 
 -- A day, and the pentad in force at its end: the system's letter, the year, the pentad's number.
 unfoldable pub inForceLine : ℕ → ℕ → ℕ → ℕ → List ℕ

@@ -2,19 +2,10 @@
 ghost use Prim.Native.Nat.{_+_, _≤_};
 ghost use lib.ListN.{length};
 ghost use Rattle.text.specs.Wrote.{Wrote};
-ghost use Rattle.pages.specs.PentadPages.{pentadsLine, pentadsPage, inForceLine, pentadLine};
+ghost use Rattle.pages.specs.PentadPages.{pentadsPage, inForceLine, pentadLine};
 use crate::steps;
 use crate::steps::Steps;
 use calendar::data::RegisterDay;
-
-fn pentads_line(out: &mut [u8], at: usize, system: u32, year: u32) -> usize
-    requires { ⌜ at + 21 ≤ length (now out) ⌝ }
-    ensures { λ r. ⌜ Wrote (now (out .entry)) at (pentadsLine system year) (now (out .exit)) r × (r ≤ at + 21) ⌝ }
-{
-    let at = text::word(out, at, b"pentads ");
-    let at = text::year(out, at, system, year);
-    text::word(out, at, b"\n")
-}
 
 // The pentads of a year, or the line of its refusal.
 pub(crate) fn page(out: &mut [u8], at: usize, system: u32, year: u32) -> usize
@@ -25,7 +16,7 @@ pub(crate) fn page(out: &mut [u8], at: usize, system: u32, year: u32) -> usize
     if refusal != 0 {
         return text::refused(out, at, refusal);
     }
-    let at = pentads_line(out, at, system, year);
+    let at = text::title(out, at, b"pentads ", system, year);
     steps::lines(out, at, Steps::Pentads, 72, system, year)
 }
 

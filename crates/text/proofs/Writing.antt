@@ -12,7 +12,7 @@ use lib.Seq.{paste, paste-suc, length-paste}
 use borrow.Author.Tests.{eq-eqb, ne-eqb}
 use Rattle.calendar.proofs.Rising.{by-order}
 use Rattle.text.specs.Decimal.{decimal}
-use Rattle.text.specs.Piece.{word, field, letterOf, year, star, month, numbered, fields, newline, lastField, textsUpTo}
+use Rattle.text.specs.Piece.{word, field, letterOf, year, title, star, month, numbered, fields, newline, lastField, textsUpTo}
 use Rattle.text.specs.Wrote.{Wrote}
 
 -- One byte.
@@ -104,6 +104,14 @@ pub wrote-year : {b m a : List ℕ} {at p e byte : ℕ} (system n : ℕ) → byt
     → Wrote m p (field n) a e → Wrote b at (year system n) a e
 unfolding year
 wrote-year system n is w v = wrote-then (wrote-as (λ i. is i ∷ []) w) v
+
+-- The first line of a page.
+pub wrote-title : {b m₁ m₂ a : List ℕ} {at p₁ p₂ e : ℕ} (bytes : List ℕ) (system n : ℕ) → Wrote b at (word bytes) m₁ p₁
+    → Wrote m₁ p₁ (year system n) m₂ p₂
+    → Wrote m₂ p₂ newline a e
+    → Wrote b at (title bytes system n) a e
+unfolding title
+wrote-title bytes system n w y end = wrote-then w (wrote-then y end)
 
 -- A month with no star, and one with it.
 pub wrote-no-star : {b : List ℕ} {at : ℕ} (leap : ℕ) → leap ≡ 0 → at ≤ length b → Wrote b at (star leap) b at

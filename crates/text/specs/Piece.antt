@@ -46,6 +46,10 @@ letterOf system = getD (63 ∷ letters) system 63
 unfoldable pub year : ℕ → ℕ → List ℕ
 year system n = (letterOf system ∷ []) ++ field n
 
+-- The first line of a page: a word, with the space after it, and a year of a system.
+unfoldable pub title : List ℕ → ℕ → ℕ → List ℕ
+title bytes system n = word bytes ++ (year system n ++ newline)
+
 -- '*' after a leap month's number.
 abbrev pub star : ℕ → List ℕ
 star leap = cond (eqb leap 0) [] (42 ∷ [])

@@ -6,7 +6,7 @@ ghost use Prim.Native.Nat.{_+_, _*_, _^_, _<_};
 ghost use lib.Dec.{ltb};
 ghost use lib.ListN.{length};
 ghost use Rattle.text.specs.Decimal.{decimal};
-ghost use Rattle.text.specs.Piece.{word, field, letterOf, year, month, numbered, line, lastField, refusedWith, refusedLine, refusedTellingLine};
+ghost use Rattle.text.specs.Piece.{word, field, letterOf, year, title, month, numbered, line, lastField, refusedWith, refusedLine, refusedTellingLine};
 ghost use Rattle.text.specs.Put.{Put};
 
 mod put;
@@ -76,6 +76,18 @@ pub fn year(out: &mut [u8], at: usize, system: u32, n: u32) -> usize
         return at;
     }
     put::year(out, at, system, n)
+}
+
+// The first line of a page: a word, with the space after it, and a year of a system.
+pub fn title(out: &mut [u8], at: usize, bytes: &[u8], system: u32, n: u32) -> usize
+    ensures { λ r. ⌜
+        Put (now (out .entry)) at (length (now (bytes .entry)) + 13) (title (now (bytes .entry)) system n) (now (out .exit)) r
+        ⌝ }
+{
+    if is_short(out.len(), at, bytes.len() + 13) {
+        return at;
+    }
+    put::title(out, at, bytes, system, n)
 }
 
 // A space and a month's number, with a star directly after it where the leap mark is not 0.

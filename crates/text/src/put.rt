@@ -6,7 +6,7 @@ ghost use mathlib.Core.List.{[], _∷_};
 ghost use lib.Dec.{eqb, ltb};
 ghost use lib.ListN.{length};
 ghost use Rattle.text.specs.Decimal.{digit, twoDigits, fourDigits, decimal};
-ghost use Rattle.text.specs.Piece.{word, field, year, star, month, numbered, fields, line, lastField};
+ghost use Rattle.text.specs.Piece.{word, field, year, title, star, month, numbered, fields, line, lastField};
 ghost use Rattle.text.specs.Wrote.{Wrote};
 use crate::letter_of;
 
@@ -151,6 +151,19 @@ pub(crate) fn year(out: &mut [u8], at: usize, system: u32, n: u32) -> usize
 {
     let next = byte(out, at, letter_of(system));
     field(out, next, n)
+}
+
+// A word, a year of a system, and the line's end.
+pub(crate) fn title(out: &mut [u8], at: usize, bytes: &[u8], system: u32, n: u32) -> usize
+    requires { ⌜ at + (length (now bytes) + 13) ≤ length (now out) ⌝ }
+    ensures { λ r. ⌜
+        Wrote (now (out .entry)) at (title (now (bytes .entry)) system n) (now (out .exit)) r
+        × (r ≤ at + (length (now (bytes .entry)) + 13))
+        ⌝ }
+{
+    let next = word(out, at, bytes);
+    let next = year(out, next, system, n);
+    byte(out, next, b'\n')
 }
 
 fn star(out: &mut [u8], at: usize, leap: u8) -> usize

@@ -17,8 +17,11 @@ same-length c = search needs
 returns : tie.Need-returns
 returns c = all-put (search (put-pentads-refused, put-last)) (omega arith)
 
-pentads-line-requires : tie.Need-pentads-line-requires
-pentads-line-requires c κs = search needs
+slice-aggregate-title : tie.Need-slice-aggregate-title
+slice-aggregate-title c = search needs
+
+title-requires : tie.Need-title-requires
+title-requires c κs = search needs
 
 lines-requires : tie.Need-lines-requires
 lines-requires c κs = search needs
@@ -37,7 +40,8 @@ page-spec =
     refused-requires
     same-length
     returns
-    pentads-line-requires
+    slice-aggregate-title
+    title-requires
     lines-requires
     same-length-2
     returns-2)

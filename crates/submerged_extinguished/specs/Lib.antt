@@ -1,0 +1,13 @@
+-- What the requests for submerged and extinguished days promise.
+-- The numbers of each system's rules.
+pub mod Rules
+-- The rules in the paper's words, with exact remainders.
+pub mod Distances
+-- What the laws ask of a system's numbers.
+pub mod RuleHolds
+-- What is answered, for every input.
+pub mod Answers
+-- How each request can end, in the paper's words.
+pub mod Outcomes
+-- Bounds of machine words, under which the code's numbers fit.
+pub mod WordBounds

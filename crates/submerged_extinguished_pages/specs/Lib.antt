@@ -1,0 +1,2 @@
+-- What the pages of submerged and extinguished days promise.
+pub mod DistancePages
