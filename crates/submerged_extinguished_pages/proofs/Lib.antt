@@ -3,3 +3,5 @@
 pub mod AnswerText
 -- The pages from their lines.
 pub mod PageText
+-- Lines, computed.
+pub mod Examples

@@ -11,7 +11,7 @@ none-requires : tie.Need-none-requires
 none-requires c κs = search needs
 
 returns : tie.Need-returns
-returns c = search no-rule
+returns c = no-rule _ _ _ (c .before .before .outside .ensures) (c .before .if1 .taken) (c .none .ensures)
 
 none-requires-2 : tie.Need-none-requires-2
 none-requires-2 c κs = search needs

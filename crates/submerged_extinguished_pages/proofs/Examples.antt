@@ -1,0 +1,43 @@
+-- Lines, computed: the first of each page, of a distance, of none, and of a distance of no days.
+use Prim.Native.Nat.{ℕ}
+use mathlib.Core.Path.{_≡_, refl}
+use mathlib.Core.List.{List, [], _∷_, _++_}
+use Rattle.reckoning.specs.ComputedRefusals.{yearRefusal, stepRefusal}
+use Rattle.reckoning.specs.Filled.{filled}
+use Rattle.reckoning.specs.Requests.{stepOf, monthsFrom, yearOf}
+use Rattle.submerged_extinguished.specs.Answers.{submergedBy, submergedIn, extinguishedBy, extinguishedIn}
+use Rattle.text.specs.Decimal.{decimal}
+use Rattle.text.specs.Piece.{word, field, year, title, numbered, lastField}
+use Rattle.submerged_extinguished_pages.specs.DistancePages.{lineEnd, answerLine, submergedWord, qiLine, extinguishedWord, moonLine}
+
+-- "submerged G 1094"
+abbrev submerged-title : List ℕ
+submerged-title = 115 ∷ 117 ∷ 98 ∷ 109 ∷ 101 ∷ 114 ∷ 103 ∷ 101 ∷ 100 ∷ 32 ∷ 71 ∷ 32 ∷ 49 ∷ 48 ∷ 57 ∷ 52 ∷ 10 ∷ []
+
+-- "qi 1 2120640 7"
+abbrev qi-line : List ℕ
+qi-line = 113 ∷ 105 ∷ 32 ∷ 49 ∷ 32 ∷ 50 ∷ 49 ∷ 50 ∷ 48 ∷ 54 ∷ 52 ∷ 48 ∷ 32 ∷ 55 ∷ 10 ∷ []
+
+-- "qi 2 2120656 -"
+abbrev no-submerged : List ℕ
+no-submerged = 113 ∷ 105 ∷ 32 ∷ 50 ∷ 32 ∷ 50 ∷ 49 ∷ 50 ∷ 48 ∷ 54 ∷ 53 ∷ 54 ∷ 32 ∷ 45 ∷ 10 ∷ []
+
+-- "extinguished G 1094"
+abbrev extinguished-title : List ℕ
+extinguished-title = 101 ∷ 120 ∷ 116 ∷ 105 ∷ 110 ∷ 103 ∷ 117 ∷ 105 ∷ 115 ∷ 104 ∷ 101 ∷ 100 ∷ 32 ∷ 71 ∷ 32 ∷ 49 ∷ 48 ∷ 57 ∷ 52 ∷ 10 ∷ []
+
+-- "moon 2 2120631 7"
+abbrev moon-line : List ℕ
+moon-line = 109 ∷ 111 ∷ 111 ∷ 110 ∷ 32 ∷ 50 ∷ 32 ∷ 50 ∷ 49 ∷ 50 ∷ 48 ∷ 54 ∷ 51 ∷ 49 ∷ 32 ∷ 55 ∷ 10 ∷ []
+
+-- "moon 9 2123407 0"
+abbrev nought : List ℕ
+nought = 109 ∷ 111 ∷ 111 ∷ 110 ∷ 32 ∷ 57 ∷ 32 ∷ 50 ∷ 49 ∷ 50 ∷ 51 ∷ 52 ∷ 48 ∷ 55 ∷ 32 ∷ 48 ∷ 10 ∷ []
+
+pub submerged-lines : title submergedWord 1 1094 ++ (qiLine 1 1094 1 ++ qiLine 1 1094 2) ≡ submerged-title ++ (qi-line ++ no-submerged)
+unfolding submergedIn submergedBy stepOf stepRefusal decimal word field year title numbered lastField lineEnd answerLine
+submerged-lines = refl
+
+pub extinguished-lines : title extinguishedWord 1 1094 ++ (moonLine 1 (yearOf 1 1094) 2 ++ moonLine 1 (yearOf 1 1101) 9) ≡ extinguished-title ++ (moon-line ++ nought)
+unfolding extinguishedIn extinguishedBy yearOf yearRefusal monthsFrom filled decimal word field year title numbered lastField lineEnd answerLine
+extinguished-lines = refl
