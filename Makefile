@@ -20,7 +20,8 @@ programs = build/chiselbrow build/chiselbrow-renew build/almanac
 system := $(dir $(shell readlink -f "$$(command -v rt)"))../lib/libos_c.a
 test_tools = build/independent build/store_check build/convert_check build/null_check build/builders build/incident \
              build/feed build/faults.so
-bench_tools = build/bench build/bench_heads build/c_program build/c_renew build/c_compare build/c_pentads
+bench_tools = build/bench build/bench_heads build/c_program build/c_renew build/c_compare build/c_pentads \
+              build/c_submerged
 # The longest first, so that two at a time end together.
 tests = tests/mixups.sh tests/program.sh tests/every_day.sh tests/convert.sh tests/renew.sh tests/every_year.sh \
         tests/pipes.sh tests/damaged.sh tests/every_comparison.sh tests/every_submerged.sh tests/every_pentad.sh \
@@ -93,8 +94,8 @@ build:
 # What the runs of the programs stand on.
 build/proved: $(crates) | build
 	@echo "proving the libraries (what the prover says: build/proved.log)"
-	@rt check lines conversion pages comparison_pages submerged_extinguished_pages arguments process < /dev/null > build/proved.log 2>&1 || \
-	    { cat build/proved.log >&2; exit 1; }
+	@rt check lines conversion pages comparison_pages submerged_extinguished_pages arguments process \
+	    < /dev/null > build/proved.log 2>&1 || { cat build/proved.log >&2; exit 1; }
 	@touch $@
 
 # A crate proved with all that it stands on, and archived for C. What the prover says is kept, and shown if it refuses.
@@ -164,5 +165,5 @@ build/from_page.a: bench/from_page.patch $(crates) | build
 build/c_program: bench/c_program.c bench/c_store.c $(wildcard bench/*.h) | build
 	$(CC) $(CFLAGS) -o $@ $(filter %.c,$^)
 
-build/c_renew build/c_compare build/c_pentads: build/%: bench/%.c $(wildcard bench/*.h) | build
+build/c_renew build/c_compare build/c_pentads build/c_submerged: build/%: bench/%.c $(wildcard bench/*.h) | build
 	$(CC) $(CFLAGS) -o $@ $<

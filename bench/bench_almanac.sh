@@ -1,26 +1,32 @@
 #!/usr/bin/env bash
-# Measures the almanac's comparisons, pentads and pentads in force against the C
-# ones, after checking that they write the same lines.
+# Measures the almanac's comparisons, pentads, pentads in force, submerged and
+# extinguished days against the C ones, after checking that they write the same
+# lines.
 #
-#     bench_almanac.sh ALMANAC C_COMPARE C_PENTADS
+#     bench_almanac.sh ALMANAC C_COMPARE C_PENTADS C_SUBMERGED
 
 set -euo pipefail
 export LC_ALL=C     # the clock below is read with a decimal point
 
-if [ $# -ne 3 ]; then
-    echo "usage: bench_almanac.sh ALMANAC C_COMPARE C_PENTADS" >&2
+if [ $# -ne 4 ]; then
+    echo "usage: bench_almanac.sh ALMANAC C_COMPARE C_PENTADS C_SUBMERGED" >&2
     exit 2
 fi
 almanac=$(realpath -- "$1")
 c_compare=$(realpath -- "$2")
 c_pentads=$(realpath -- "$3")
+c_submerged=$(realpath -- "$4")
 
 # A request of the almanac, and the same of the C.
 ask_almanac() {
     "$almanac" "$@"
 }
 ask_c() {
-    if [ "$1" = compare ]; then "$c_compare" "${@:2}"; else "$c_pentads" "$@"; fi
+    case $1 in
+        compare) "$c_compare" "${@:2}" ;;
+        pentad*) "$c_pentads" "$@" ;;
+        *) "$c_submerged" "$@" ;;
+    esac
 }
 
 # Both write the same lines.
@@ -68,8 +74,14 @@ for system in 1 2 3 4; do
     same pentads "$system" 0 3002
     same pentad "$system" 1721000 2817500
     same pentad "$system" 0 400000
+    same submerged "$system" 0 3002
+    same extinguished "$system" 0 3002
 done
 
 measure year 300 compare 1 2 1 3000
 measure year 15 pentads 1 1 3000
 measure day 15 pentad 1 1721414 2817144
+for system in 1 2; do
+    measure year 50 submerged "$system" 1 3000
+    measure year 100 extinguished "$system" 1 3000
+done

@@ -13,7 +13,7 @@ cd "$(dirname "$0")/.."
     build/bench_heads
     bench/bench_program.sh build/chiselbrow build/c_program
     bench/bench_renew.sh build/chiselbrow-renew build/c_renew
-    bench/bench_almanac.sh build/almanac build/c_compare build/c_pentads
+    bench/bench_almanac.sh build/almanac build/c_compare build/c_pentads build/c_submerged
 } | awk '
     { print; fflush() }
     / ratio / {
