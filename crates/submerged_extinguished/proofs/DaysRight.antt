@@ -16,6 +16,7 @@ use Rattle.submerged_extinguished.specs.Answers.{exactRemainder, submerg
 use Rattle.submerged_extinguished.specs.Outcomes.{SubmergedOutcome, ExtinguishedOutcome}
 use Rattle.submerged_extinguished.proofs.RuleLaws as Rules
 use Rattle.submerged_extinguished.proofs.EachRule as Each
+use Rattle.submerged_extinguished.proofs.MoonLaws as Moons
 use Rattle.submerged_extinguished.proofs.SubmergedEnds.{submerged-outcome}
 use Rattle.submerged_extinguished.proofs.ExtinguishedEnds.{extinguished-outcome}
 
@@ -71,4 +72,4 @@ module _ (system : ℕ) (has : HasRule system) where
 
   -- So a new moon has an extinguished day exactly when its month has 29 days.
   pub in-short-months : (k : ℕ) → (newMoonRemainder c k < rule .shortfall) ↔ (monthLength c k ≡ 29)
-  in-short-months = Rules.in-short-months c rule (Each.rule-holds system has) (consistent system)
+  in-short-months = Moons.in-short-months c (consistent system) rule (Each.rule-holds system has)

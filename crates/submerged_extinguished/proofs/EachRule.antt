@@ -35,8 +35,8 @@ rule-holds = each-rule RuleHolds guantian-holds jiyuan-holds
 pub rule-fits : (system : ℕ) → HasRule system → RuleFits (constantsOf system) (ruleOf system)
 rule-fits =
     each-rule RuleFits
-    (record { holds = guantian-holds; day-small = omega arith; minuend-small = omega arith })
-    (record { holds = jiyuan-holds; day-small = omega arith; minuend-small = omega arith })
+    (record { holds = guantian-holds; day-small = omega arith; minuend-small = omega arith; lunar-small = omega arith; shortfall-small = omega arith })
+    (record { holds = jiyuan-holds; day-small = omega arith; minuend-small = omega arith; lunar-small = omega arith; shortfall-small = omega arith })
 
 -- Each system's own words, for every remainder that there can be.
 pub guantian-words : (parts units : ℕ) → parts < 12_030 → units < 36 → (d : Distance)

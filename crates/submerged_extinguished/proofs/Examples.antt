@@ -5,11 +5,11 @@ use mathlib.Core.List.{List, [], _∷_}
 use Rattle.reckoning.specs.ComputedRefusals.{yearRefusal, stepRefusal}
 use Rattle.reckoning.specs.Filled.{filled}
 use Rattle.reckoning.specs.RefusalNumbers.{SYSTEM, YEAR, DAY, STEP}
-use Rattle.reckoning.specs.Requests.{asRegisterDay, stepOf, monthsFrom, yearOf}
+use Rattle.reckoning.specs.Requests.{asRegisterDay, stepOf}
 use Rattle.submerged_extinguished.specs.declared.data.Answer.{Answer}
 use Rattle.submerged_extinguished.specs.declared.data.Distance.the-variants.{Days, None}
-use Rattle.submerged_extinguished.specs.Answers.{submergedBy, extinguishedBy, noAnswer, answerAt, submergedIn, submergedOf}
-use Rattle.submerged_extinguished.specs.Answers.{extinguishedIn, extinguishedOf}
+use Rattle.submerged_extinguished.specs.Answers.{submergedBy, extinguishedBy, noAnswer, answerAt, submergedIn, submergedOf, extinguishedFrom}
+use Rattle.submerged_extinguished.specs.Answers.{extinguishedDaysOf, extinguishedOf}
 
 -- So many days after a day, and none after it.
 abbrev after : ℕ → ℕ → Answer
@@ -69,7 +69,7 @@ pub extinguished-days :
     ∷ after 0 2_124_854
     ∷ after 29 2_098_276
     ∷ []
-unfolding extinguishedIn extinguishedBy yearOf yearRefusal monthsFrom filled
+unfolding extinguishedOf extinguishedDaysOf extinguishedFrom extinguishedBy yearRefusal filled
 extinguished-days = refl
 
 -- Refused: the system, the year, and places that the year lacks; 1092 has twelve months, and 1094 thirteen.
@@ -81,5 +81,5 @@ pub extinguished-refused :
     ∷ extinguishedOf 1 1094 0
     ∷ []
     ≡ noAnswer SYSTEM ∷ noAnswer YEAR ∷ noAnswer DAY ∷ noAnswer DAY ∷ noAnswer DAY ∷ []
-unfolding extinguishedIn extinguishedBy yearOf yearRefusal monthsFrom filled
+unfolding extinguishedOf extinguishedDaysOf extinguishedFrom extinguishedBy yearRefusal filled
 extinguished-refused = refl

@@ -1,176 +1,203 @@
--- How the request for an extinguished day ends, in the paper's words.
+-- How the requests for extinguished days end, in the paper's words.
 use Prim.Native.Nat.{ℕ, _+_, _-_, _≤_, _<_}
 use mathlib.Core.Path.{_≡_, refl, subst, sym, ap, _∙_}
-use mathlib.Core.Logic.{⊎-elim}
-use mathlib.Core.Bool.{Bool, true, false, cond}
+use mathlib.Core.Bool.{Bool, true, false}
 use native.Mathlib.Omega.{arith}
-use borrow.Author.Tests.{lt-ltb, le-ltb}
+use lib.ListN.{getD}
+use borrow.Author.Tests.{eq-eqb, ne-eqb}
 use Rattle.calendar.specs.declared.data.Constants.{Constants}
-use Rattle.calendar.specs.Systems.{constantsOf, yearsElapsed}
+use Rattle.calendar.specs.Systems.{constantsOf, yearsElapsed, registerDay}
+use Rattle.calendar.specs.ClosedForms.{firstMonth}
 use Rattle.calendar.proofs.EachSystem.{consistent}
-use Rattle.calendar.proofs.Rising.{by-order}
-use Rattle.calendar.proofs.Spans.{span-first, span-next}
-use Rattle.reckoning.specs.declared.data.Year.{Year}
+use Rattle.calendar.proofs.EveryCalendar.{count-least}
+use Rattle.calendar.proofs.Reckoned.{reckoned}
+use Rattle.calendar.proofs.Spans.{span, span-first, span-next}
 use Rattle.reckoning.specs.ComputedRefusals.{outside, yearRefusal}
 use Rattle.reckoning.specs.RefusalNumbers.{SYSTEM, YEAR, DAY}
-use Rattle.reckoning.specs.Requests.{asRegisterDay, yearOf}
 use Rattle.reckoning.specs.Scope.{InScope}
-use Rattle.reckoning.specs.YearValue.{headIn, remainderIn, ListsMonths}
-use Rattle.reckoning.proofs.RefusalCases.{by-inside, by-scope, inside-of}
-use Rattle.reckoning.proofs.RefusedRequests.{year-blank}
-use Rattle.reckoning.proofs.MonthsRight.{year-holds, year-tiled}
+use Rattle.reckoning.specs.WordBounds.{MonthsInRegister}
+use Rattle.reckoning.proofs.AnswerUnless.{refused-year, answered-year}
+use Rattle.reckoning.proofs.FilledLaws.{filled-below}
+use Rattle.reckoning.proofs.RefusalCases.{by-inside, by-scope, inside, inside-of}
+use Rattle.reckoning.proofs.RegisterLaws.{months-in-register}
+use Rattle.reckoning.proofs.ScopeInRegister.{year-in-register}
 use Rattle.submerged_extinguished.specs.declared.data.Answer.{Answer}
-use Rattle.submerged_extinguished.specs.declared.data.Distance.{Distance}
+use Rattle.submerged_extinguished.specs.declared.data.ExtinguishedDays.{ExtinguishedDays}
 use Rattle.submerged_extinguished.specs.Rules.{lastRule, HasRule, ruleOf}
-use Rattle.submerged_extinguished.specs.Distances.{ExtinguishedSays}
-use Rattle.submerged_extinguished.specs.Answers.{extinguishedAfter, noAnswer, answerAt, lacksPlace}
-use Rattle.submerged_extinguished.specs.Answers.{extinguishedIn, extinguishedOf}
+use Rattle.submerged_extinguished.specs.Answers.{noAnswer, extinguishedAt, unused, noMoons, extinguishedFrom, extinguishedDaysIn}
+use Rattle.submerged_extinguished.specs.Answers.{noDays, extinguishedDaysOf, answerOn, extinguishedOf}
 use Rattle.submerged_extinguished.specs.Outcomes as O
 use Rattle.submerged_extinguished.proofs.RuleLaws.{extinguished-says}
 use Rattle.submerged_extinguished.proofs.EachRule.{rule-holds}
-use Rattle.submerged_extinguished.proofs.AnswerLaws.{refused-as, answered-as, system-in-scope, by-no-rule, by-refusal, by-answer}
+use Rattle.submerged_extinguished.proofs.SubmergedEnds.{system-in-scope}
 
--- Of a system that has a rule.
-module _ (system year place : ℕ) (has : HasRule system) where
+-- The answer at a place, by its year's extinguished days.
+module _ (system year place : ℕ) where
+  abbrev days : ExtinguishedDays
+  days = extinguishedDaysOf system year
+
+  pub of-refused : (number : ℕ) → days .refusal ≡ number → (number ≡ 0 → ⊥) → extinguishedOf system year place ≡ noAnswer number
+  unfolding extinguishedOf
+  of-refused number is some = simp (ne-eqb (days .refusal) 0 (λ z. some (sym is ∙ z))) (ap noAnswer is)
+
+  pub of-lacking : days .refusal ≡ 0 → outside 1 (days .count) place ≡ true → extinguishedOf system year place ≡ noAnswer DAY
+  unfolding extinguishedOf
+  of-lacking none e = simp (eq-eqb (days .refusal) 0 none, e)
+
+  pub of-place : days .refusal ≡ 0 → outside 1 (days .count) place ≡ false
+      → extinguishedOf system year place ≡ answerOn (getD (days .moons) (place - 1) unused)
+  unfolding extinguishedOf
+  of-place none e = simp (eq-eqb (days .refusal) 0 none, e)
+
+-- The extinguished days of a year: refused,
+pub no-rule : (system year : ℕ) → outside 1 lastRule system ≡ true → extinguishedDaysOf system year ≡ noDays SYSTEM
+unfolding extinguishedDaysOf
+no-rule system year out = simp out
+
+module _ (system year : ℕ) (has : HasRule system) where
   abbrev c : Constants
   c = constantsOf system
 
-  abbrev months : Year
-  months = yearOf system year
+  abbrev n : ℕ
+  n = yearsElapsed c year
 
-  abbrev found-at : Answer
-  found-at =
-      answerAt (asRegisterDay (headIn months (place - 1))) (extinguishedAfter system (remainderIn months (place - 1)))
+  pub days-refused : (number : ℕ) → yearRefusal system year ≡ number → 0 < number → extinguishedDaysOf system year ≡ noDays number
+  unfolding extinguishedDaysOf
+  days-refused number e some =
+      simp (inside 1 lastRule system has) (refused-year (extinguishedDaysIn (ruleOf system)) noDays system year number e some)
 
-  year-refused : (number : ℕ) → yearRefusal system year ≡ number → 0 < number → extinguishedOf system year place ≡ noAnswer number
-  unfolding extinguishedIn
-  year-refused number e some =
-      let blank = year-blank system year (λ z. omega arith) in
-      refused-as system has (months .refusal) _ number (ap (λ v. v .refusal) blank ∙ e) (λ z. omega arith)
-
+  -- and answered.
   module _ (s : InScope system year) where
-    lists : ListsMonths c (yearsElapsed c year) months
-    lists = year-holds system year s
+    pub days-answered : extinguishedDaysIn (ruleOf system) c n ≡ extinguishedDaysOf system year
+    unfolding extinguishedDaysOf
+    days-answered =
+        simp (inside 1 lastRule system has) (answered-year (extinguishedDaysIn (ruleOf system)) noDays system year s)
 
-    thirteen-most : months .count ≤ 13
-    thirteen-most = ⊎-elim (λ e. omega arith) (λ e. omega arith) ((year-tiled system year s) .months)
+    in-register : MonthsInRegister c (firstMonth c n) (firstMonth c (n + 1) - firstMonth c n)
+    in-register = months-in-register c n (year-in-register system year (s .year-inside))
 
-    -- A place that some month has is one of the value's.
-    within : (m : ℕ) → O.AtPlace c (yearsElapsed c year) place m → (1 ≤ place) × (place ≤ months .count)
-    within m at =
-        let ok = consistent system in
-        let year-span = at .in-year .span in
-        let first = span-first c ok year-span ∙ sym (span-first c ok (lists .span)) in
-        let next = span-next c ok year-span ∙ sym (span-next c ok (lists .span)) in
-        (omega (arith, at .place-is, at .in-year .from), omega (arith, at .place-is, at .in-year .before, lists .count))
+    accepted : (extinguishedDaysOf system year) .refusal ≡ 0
+    unfolding extinguishedFrom
+    accepted = ap (λ v. v .refusal) (sym days-answered)
 
-    -- By the months: refused, or answered by the month at the place.
-    refused-place : lacksPlace months place ≡ true → extinguishedOf system year place ≡ noAnswer DAY
-    unfolding extinguishedIn
-    refused-place lacks = answered-as system has (months .refusal) _ (lists .accepted) ∙ simp lacks
+    counted : (extinguishedDaysOf system year) .count ≡ firstMonth c (n + 1) - firstMonth c n
+    unfolding extinguishedFrom
+    counted = ap (λ v. v .count) (sym days-answered)
 
-    answered-place : lacksPlace months place ≡ false → found-at ≡ extinguishedOf system year place
-    unfolding extinguishedIn
-    answered-place here = sym (answered-as system has (months .refusal) _ (lists .accepted) ∙ simp here)
+    -- Each answer is that of its month.
+    pub of-month : (i : ℕ) → i < (extinguishedDaysOf system year) .count
+        → getD ((extinguishedDaysOf system year) .moons) i unused ≡ extinguishedAt c (ruleOf system) (firstMonth c n + i)
+    unfolding extinguishedFrom
+    of-month i h =
+        ap (λ v. getD (v .moons) i unused) (sym days-answered)
+        ∙ filled-below (λ j. extinguishedAt c (ruleOf system) (firstMonth c n + j)) noMoons unused _ i (omega (arith, counted))
+        (omega (arith, in-register .count-most))
 
-    place-found : 1 ≤ place → place ≤ months .count → O.ExtinguishedFound system year place found-at
-    place-found from to =
-        let i = place - 1 in
-        let first = lists .span .first in
-        let before : i < months .count = omega arith in
-        record {
-          has-rule = has;
-          year-inside = s .year-inside;
-          k = first + i;
-          at-place = record {
-            in-year = record { span = lists .span; from = omega arith; before = omega (arith, lists .count) };
-            place-is = omega arith;
-          };
-          not-refused = refl;
-          is-day = lists .head i before;
-          says = subst (λ r. ExtinguishedSays (ruleOf system) r (found-at .distance)) (lists .remainder i before)
-              (extinguished-says c (ruleOf system) (rule-holds system has) (remainderIn months i));
-        }
+    module _ (place : ℕ) where
+      -- A place that some month has is one of those listed.
+      within : (k : ℕ) → O.AtPlace c n place k → (1 ≤ place) × (place ≤ (extinguishedDaysOf system year) .count)
+      within k at =
+          let ok = consistent system in
+          let first = span-first c ok (at .in-year .span) in
+          let next = span-next c ok (at .in-year .span) in
+          (omega (arith, at .place-is, at .in-year .from), omega (arith, at .place-is, at .in-year .before, counted))
 
-    place-outcome : O.ExtinguishedOutcome system year place (extinguishedOf system year place)
-    place-outcome =
-        by-inside 1 13 place
-        (λ e out.
-        O.ExtinguishedOutcome.place-refused has (s .year-inside)
-        (λ m at. let w = within m at in out (record { at-least = w .0; at-most = omega (arith, thirteen-most) }))
-        (refused-place (simp e)))
-        (λ e into.
-        by-order (months .count) place
-        (λ past.
-        O.ExtinguishedOutcome.place-refused has (s .year-inside)
-        (λ m at. omega (arith, within m at))
-        (refused-place (simp (e, lt-ltb (months .count) place past))))
-        (λ h.
-        O.ExtinguishedOutcome.found
-        (subst (O.ExtinguishedFound system year place)
-        (answered-place (simp (e, le-ltb (months .count) place h)))
-        (place-found (into .at-least) h))))
+      found : 1 ≤ place → place ≤ (extinguishedDaysOf system year) .count
+          → O.ExtinguishedFound system year place (answerOn (extinguishedAt c (ruleOf system) (firstMonth c n + (place - 1))))
+      found from to =
+          let k = firstMonth c n + (place - 1) in
+          let least = count-least (reckoned c (consistent system)) n in
+          let there = in-register .head (place - 1) (omega (arith, counted)) in
+          record {
+            has-rule = has;
+            year-inside = s .year-inside;
+            k = k;
+            at-place = record {
+              in-year = record { span = span c (consistent system) n; from = omega arith; before = omega (arith, counted) };
+              place-is = omega arith;
+            };
+            not-refused = refl;
+            is-day = omega (arith, there);
+            says = extinguished-says c (ruleOf system) (rule-holds system has) _;
+          }
+
+      place-outcome : O.ExtinguishedOutcome system year place (extinguishedOf system year place)
+      place-outcome =
+          by-inside 1 ((extinguishedDaysOf system year) .count) place
+          (λ e out.
+          O.ExtinguishedOutcome.place-refused has (s .year-inside)
+          (λ k at. let w = within k at in out (record { at-least = w .0; at-most = w .1 }))
+          (of-lacking system year place accepted e))
+          (λ e into.
+          let is = of-place system year place accepted e ∙ ap answerOn (of-month (place - 1) (omega (arith, into))) in
+          O.ExtinguishedOutcome.found
+          (subst (O.ExtinguishedFound system year place) (sym is) (found (into .at-least) (into .at-most))))
 
 pub extinguished-outcome : (system year place : ℕ) → O.ExtinguishedOutcome system year place (extinguishedOf system year place)
-unfolding extinguishedIn
 extinguished-outcome system year place =
     by-inside 1 lastRule system
-    (λ e none. O.ExtinguishedOutcome.system-refused none (simp e))
+    (λ e none.
+    O.ExtinguishedOutcome.system-refused none
+    (of-refused system year place SYSTEM (ap (λ v. v .refusal) (no-rule system year e)) (λ z. omega arith)))
     (λ e has.
     by-scope system year
     (λ none refusal. absurd (none (system-in-scope system has)))
-    (λ s none refusal. O.ExtinguishedOutcome.year-refused has none (year-refused system year place has YEAR refusal (omega arith)))
-    (λ s. place-outcome system year place has s))
+    (λ s none refusal.
+    let blank = days-refused system year has YEAR refusal (omega arith) in
+    O.ExtinguishedOutcome.year-refused has none
+    (of-refused system year place YEAR (ap (λ v. v .refusal) blank) (λ z. omega arith)))
+    (λ s. place-outcome system year has s place))
 
--- What the code returns.
-pub promised : {v : Answer} {months : Year} (system year place : ℕ) → months ≡ yearOf system year → v ≡ extinguishedIn system months place
+-- There are thirteen at most; one that is refused has none.
+pub thirteen-most : (system year : ℕ) → (extinguishedDaysOf system year) .count ≤ 13
+thirteen-most system year =
+    by-inside 1 lastRule system
+    (λ e none. omega (arith, ap (λ v. v .count) (no-rule system year e)))
+    (λ e has.
+    by-scope system year
+    (λ none refusal. absurd (none (system-in-scope system has)))
+    (λ s none refusal. omega (arith, ap (λ v. v .count) (days-refused system year has YEAR refusal (omega arith))))
+    (λ s. omega (arith, counted system year has s, in-register system year has s .count-most)))
+
+-- What the code returns, by the days that it asked for.
+pub promised : {v : Answer} (system year place : ℕ) → v ≡ extinguishedOf system year place
     → (v ≡ extinguishedOf system year place) × O.ExtinguishedOutcome system year place v
-promised system year place asked is =
-    let e = is ∙ ap (λ m. extinguishedIn system m place) asked in
-    (e, subst (O.ExtinguishedOutcome system year place) (sym e) (extinguished-outcome system year place))
+promised system year place is = (is, subst (O.ExtinguishedOutcome system year place) (sym is) (extinguished-outcome system year place))
 
-abbrev answer-by : ℕ → Year → ℕ → Answer
-answer-by system months place =
-    cond (lacksPlace months place)
-    (noAnswer DAY)
-    (answerAt (asRegisterDay (headIn months (place - 1))) (extinguishedAfter system (remainderIn months (place - 1))))
+module _ (system year place : ℕ) {got : ExtinguishedDays} (asked : got ≡ extinguishedDaysOf system year) where
+  pub returns-refusal : {v : Answer} → (got .refusal ≡ 0 → ⊥) → v ≡ noAnswer (got .refusal) → v ≡ extinguishedOf system year place
+  returns-refusal some is = is ∙ sym (of-refused system year place (got .refusal) (sym (ap (λ w. w .refusal) asked)) some)
 
-module _ (system : ℕ) (months : Year) (place : ℕ) {b : Bool} (test : b ≡ outside 1 lastRule system) {v : Answer} where
-  pub no-rule : b ≡ true → v ≡ noAnswer SYSTEM → v ≡ extinguishedIn system months place
-  unfolding extinguishedIn
-  no-rule out is = by-no-rule system test (months .refusal) (answer-by system months place) out is
+  module _ (none : got .refusal ≡ 0) {b : Bool} (test : b ≡ outside 1 (got .count) place) where
+    accepted-days : (extinguishedDaysOf system year) .refusal ≡ 0
+    accepted-days = sym (ap (λ w. w .refusal) asked) ∙ none
 
-  module _ (into : b ≡ false) where
-    pub returns-refusal : (months .refusal ≡ 0 → ⊥) → v ≡ noAnswer (months .refusal) → v ≡ extinguishedIn system months place
-    unfolding extinguishedIn
-    returns-refusal some is = by-refusal system test (months .refusal) (answer-by system months place) into some is
+    tested : outside 1 ((extinguishedDaysOf system year) .count) place ≡ b
+    tested = sym (test ∙ ap (λ w. outside 1 (w .count) place) asked)
 
-    module _ (none : months .refusal ≡ 0) where
-      answered : v ≡ answer-by system months place → v ≡ extinguishedIn system months place
-      unfolding extinguishedIn
-      answered is = by-answer system test (months .refusal) (answer-by system months place) into none is
+    pub returns-lacking : {v : Answer} → b ≡ true → v ≡ noAnswer DAY → v ≡ extinguishedOf system year place
+    returns-lacking out is = is ∙ sym (of-lacking system year place accepted-days (tested ∙ out))
 
-      module _ {out : Bool} (place-test : out ≡ outside 1 13 place) where
-        pub past-thirteen : out ≡ true → v ≡ noAnswer DAY → v ≡ extinguishedIn system months place
-        past-thirteen past is = answered (is ∙ simp (sym place-test ∙ past))
-
-        pub past-last : out ≡ false → months .count < place → v ≡ noAnswer DAY → v ≡ extinguishedIn system months place
-        past-last inside past is = answered (is ∙ simp (sym place-test ∙ inside, lt-ltb (months .count) place past))
-
-        pub at-place : {d : Distance} → out ≡ false → place ≤ months .count
-            → d ≡ extinguishedAfter system (remainderIn months (place - 1))
-            → v ≡ answerAt (asRegisterDay (headIn months (place - 1))) d
-            → v ≡ extinguishedIn system months place
-        at-place inside here distance is =
-            answered
-            (is
-            ∙ ap (answerAt (asRegisterDay (headIn months (place - 1)))) distance
-            ∙ simp (sym place-test ∙ inside, le-ltb (months .count) place here))
+    pub returns-answer : {v : Answer} → b ≡ false → v ≡ answerOn (getD (got .moons) (place - 1) unused) → v ≡ extinguishedOf system year place
+    returns-answer into is =
+        is
+        ∙ ap (λ w. answerOn (getD (w .moons) (place - 1) unused)) asked
+        ∙ sym (of-place system year place accepted-days (tested ∙ into))
 
 -- A place that is tested can be read.
-module _ (place : ℕ) {out : Bool} (test : out ≡ outside 1 13 place) (inside : out ≡ false) where
-  pub place-from : 1 ≤ place
-  place-from = (inside-of 1 13 place (sym test ∙ inside)) .at-least
+module _ (system year place : ℕ) {got : ExtinguishedDays} (asked : got ≡ extinguishedDaysOf system year)
+    {b : Bool}
+    (test : b ≡ outside 1 (got .count) place)
+    (into : b ≡ false)
+  where
+    pub place-from : 1 ≤ place
+    place-from = (inside-of 1 (got .count) place (sym test ∙ into)) .at-least
 
-  pub index-there : place - 1 < 14
-  index-there = omega (arith, inside-of 1 13 place (sym test ∙ inside))
+    pub index-there : place - 1 < 13
+    index-there =
+        omega (
+          arith,
+          inside-of 1 (got .count) place (sym test ∙ into),
+          ap (λ w. w .count) asked,
+          thirteen-most system year,
+        )

@@ -3,14 +3,18 @@
 pub mod RuleLaws
 -- The list, checked for each system, and each system's own words.
 pub mod EachRule
--- How an answer follows from a refusal.
-pub mod AnswerLaws
+-- From one new moon to the next.
+pub mod MoonLaws
+-- The new moons of a year as the code goes through them.
+pub mod MoonList
 -- The code's numbers fit.
 pub mod WordFits
 -- How the request for a submerged day ends.
 pub mod SubmergedEnds
 -- How the request for an extinguished day ends.
 pub mod ExtinguishedEnds
+-- The days of a year, and its months by them.
+pub mod DaysAsked
 -- What the paper says of submerged and extinguished days.
 pub mod DaysRight
 -- Answers, computed.

@@ -1,14 +1,11 @@
 -- The rules for submerged and extinguished days, over any numbers that meet the list.
 use Prim.Native.Nat.{ℕ, _+_, _*_, _-_, _/_, _≤_, _<_}
 use mathlib.Core.Path.{_≡_, refl, sym, ap, subst, _∙_}
-use mathlib.Core.Logic.{_↔_, ⊎-elim}
-use native.Mathlib.Nat.{mul-pos, mul-le-mul-left, mul-le-mul-right, le-div-iff-mul-le, div-lt-iff-lt-mul, div-mul-le-self, lt-div-mul-add, div-eq-of-lt-le, div-add-mod'}
+use mathlib.Core.Logic.{_↔_}
+use native.Mathlib.Nat.{mul-pos, mul-le-mul-left, mul-le-mul-right, le-div-iff-mul-le, div-lt-iff-lt-mul, div-mul-le-self, lt-div-mul-add, div-eq-of-lt-le}
 use native.Mathlib.Omega.{arith}
 use borrow.Author.Tests.{lt-ltb, le-ltb}
 use Rattle.calendar.specs.declared.data.Constants.{Constants}
-use Rattle.calendar.specs.Month.{newMoon, newMoonRemainder, monthHead, monthLength}
-use Rattle.calendar.specs.Consistent.{Consistent}
-use Rattle.calendar.proofs.Laws.{month-days}
 use Rattle.calendar.proofs.Rising.{by-order}
 use Rattle.submerged_extinguished.specs.declared.data.Distance.{Distance}
 use Rattle.submerged_extinguished.specs.declared.data.Distance.the-variants.{Days, None}
@@ -122,21 +119,3 @@ module _ (c : Constants) (rule : Rule) (ok : RuleHolds c rule) where
   -- and there is none exactly from the shortfall on.
   pub none-from : (r : ℕ) → (extinguishedBy rule r ≡ None) ↔ (rule .shortfall ≤ r)
   none-from r = (λ e. subst (ExtinguishedSays rule r) e (extinguished-says r), λ l. sym (extinguished-alone r None l))
-
-  -- A new moon has one exactly when its month has 29 days.
-  module _ (consistent : Consistent c) (k : ℕ) where
-    whole : newMoon c k ≡ monthHead c k * c .lunar + newMoonRemainder c k
-    whole = omega (arith, div-add-mod' (newMoon c k) (c .lunar))
-
-    pub in-short-months : (newMoonRemainder c k < rule .shortfall) ↔ (monthLength c k ≡ 29)
-    in-short-months = (
-      λ l.
-          let before : monthHead c (k + 1) < monthHead c k + 30 =
-          div-lt-iff-lt-mul (consistent .lunar-some) .1 (omega (arith, whole, ok .month-and-shortfall))
-          in
-          ⊎-elim (λ e. e) (λ e. absurd (omega arith)) (month-days c consistent k),
-      λ e.
-          let before : monthHead c (k + 1) < monthHead c k + 30 = omega arith in
-          let parts = div-lt-iff-lt-mul {x = newMoon c (k + 1)} (consistent .lunar-some) .0 before in
-          omega (arith, whole, ok .month-and-shortfall),
-    )

@@ -3,6 +3,7 @@ use Prim.Native.Nat.{ℕ, _≤_, _<_}
 use mathlib.Core.Path.{_≡_, refl, subst, sym, ap, _∙_}
 use mathlib.Core.Bool.{Bool, true, false}
 use native.Mathlib.Omega.{arith}
+use borrow.Author.Tests.{eq-eqb, ne-eqb}
 use Rattle.calendar.specs.declared.data.Constants.{Constants}
 use Rattle.calendar.specs.Systems.{constantsOf}
 use Rattle.calendar.proofs.Rising.{by-order}
@@ -10,8 +11,8 @@ use Rattle.reckoning.specs.declared.data.Moment.{Moment}
 use Rattle.reckoning.specs.ComputedRefusals.{outside, qiRefusal}
 use Rattle.reckoning.specs.RefusalNumbers.{SYSTEM, YEAR, STEP}
 use Rattle.reckoning.specs.Requests.{qiOf}
-use Rattle.reckoning.specs.Scope.{InScope}
-use Rattle.reckoning.proofs.RefusalCases.{by-inside, by-scope, step-unseen, step-refused, accepted-step}
+use Rattle.reckoning.specs.Scope.{SystemInScope, InScope}
+use Rattle.reckoning.proofs.RefusalCases.{by-inside, by-scope, inside, inside-of, step-unseen, step-refused, accepted-step}
 use Rattle.reckoning.proofs.RefusedRequests.{qi-blank}
 use Rattle.reckoning.proofs.AnswersRight.{qi-holds}
 use Rattle.submerged_extinguished.specs.declared.data.Answer.{Answer}
@@ -22,12 +23,27 @@ use Rattle.submerged_extinguished.specs.Answers.{submergedIn, submergedO
 use Rattle.submerged_extinguished.specs.Outcomes as O
 use Rattle.submerged_extinguished.proofs.RuleLaws.{remainder-below, submerged-says}
 use Rattle.submerged_extinguished.proofs.EachRule.{rule-holds}
-use Rattle.submerged_extinguished.proofs.AnswerLaws.{refused-as, answered-as, system-in-scope, by-no-rule, by-refusal, by-answer, has-rule}
 
 abbrev answer-by : ℕ → Moment → Answer
 answer-by system qi = answerAt (qi .day) (submergedAfter system (qi .parts) (qi .units))
 
--- Of a system that has a rule.
+-- A system that has a rule: the request is refused as the qi was, or answered.
+module _ (system : ℕ) (has : HasRule system) (qi : Moment) where
+  refused-as : (number : ℕ) → qi .refusal ≡ number → (number ≡ 0 → ⊥) → submergedIn system qi ≡ noAnswer number
+  unfolding submergedIn
+  refused-as number is some =
+      simp (inside 1 lastRule system has, ne-eqb (qi .refusal) 0 (λ z. some (sym is ∙ z))) (ap noAnswer is)
+
+  answered-as : qi .refusal ≡ 0 → submergedIn system qi ≡ answer-by system qi
+  unfolding submergedIn
+  answered-as none = simp (inside 1 lastRule system has, eq-eqb (qi .refusal) 0 none)
+
+pub system-in-scope : (system : ℕ) → HasRule system → SystemInScope system
+system-in-scope system has = record { at-least = has .at-least; at-most = omega (arith, has .at-most) }
+
+pub rule-tested : (system : ℕ) {b : Bool} → b ≡ outside 1 lastRule system → b ≡ false → HasRule system
+rule-tested system test into = inside-of 1 lastRule system (sym test ∙ into)
+
 module _ (system year i : ℕ) (has : HasRule system) where
   abbrev c : Constants
   c = constantsOf system
@@ -36,18 +52,16 @@ module _ (system year i : ℕ) (has : HasRule system) where
   qi = qiOf system year i
 
   qi-refused : (number : ℕ) → qiRefusal system year i ≡ number → 0 < number → submergedOf system year i ≡ noAnswer number
-  unfolding submergedIn
   qi-refused number e some =
       let blank = qi-blank system year i (λ z. omega arith) in
-      refused-as system has (qi .refusal) (answer-by system qi) number (ap (λ m. m .refusal) blank ∙ e) (λ z. omega arith)
+      refused-as system has qi number (ap (λ m. m .refusal) blank ∙ e) (λ z. omega arith)
 
   qi-found : InScope system year → i ≤ 24 → O.SubmergedFound system year i (submergedOf system year i)
-  unfolding submergedIn
   qi-found s h =
       let is = qi-holds system year s i h in
       let r = exactRemainder c (qi .parts) (qi .units) in
       let below = remainder-below c (qi .parts) (qi .units) (is .parts-below) (is .units-below) in
-      subst (O.SubmergedFound system year i) (sym (answered-as system has (qi .refusal) (answer-by system qi) (is .accepted)))
+      subst (O.SubmergedFound system year i) (sym (answered-as system has qi (is .accepted)))
       (record {
         has-rule = has;
         year-inside = s .year-inside;
@@ -93,19 +107,18 @@ promised system year i is = (is, subst (O.SubmergedOutcome system year i) (sym i
 module _ (system year i : ℕ) {b : Bool} (test : b ≡ outside 1 lastRule system) where
   pub no-rule : {v : Answer} → b ≡ true → v ≡ noAnswer SYSTEM → v ≡ submergedOf system year i
   unfolding submergedIn
-  no-rule out is = by-no-rule system test ((qiOf system year i) .refusal) (answer-by system (qiOf system year i)) out is
+  no-rule out is = is ∙ simp (sym test ∙ out)
 
   module _ {qi : Moment} (asked : qi ≡ qiOf system year i) (into : b ≡ false) where
     pub returns-refusal : {v : Answer} → (qi .refusal ≡ 0 → ⊥) → v ≡ noAnswer (qi .refusal) → v ≡ submergedOf system year i
-    unfolding submergedIn
     returns-refusal some is =
-        by-refusal system test (qi .refusal) (answer-by system qi) into some is ∙ ap (submergedIn system) asked
+        is ∙ sym (refused-as system (rule-tested system test into) qi (qi .refusal) refl some) ∙ ap (submergedIn system) asked
 
     pub returns-distance : {d : Distance} → qi .refusal ≡ 0 → d ≡ submergedAfter system (qi .parts) (qi .units)
         → answerAt (qi .day) d ≡ submergedOf system year i
-    unfolding submergedIn
     returns-distance none is =
-        by-answer system test (qi .refusal) (answer-by system qi) into none (ap (answerAt (qi .day)) is)
+        ap (answerAt (qi .day)) is
+        ∙ sym (answered-as system (rule-tested system test into) qi none)
         ∙ ap (submergedIn system) asked
 
     -- A qi that was answered has parts and small units below their bounds.
@@ -116,4 +129,4 @@ module _ (system year i : ℕ) {b : Bool} (test : b ≡ outside 1 lastRule syste
         let is = qi-holds system year (given .0) i (given .1) in
         let parts = ap (λ m. m .parts) asked in
         let units = ap (λ m. m .units) asked in
-        (has-rule system test into, omega (arith, is .parts-below), omega (arith, is .units-below))
+        (rule-tested system test into, omega (arith, is .parts-below), omega (arith, is .units-below))

@@ -59,6 +59,9 @@ module _ {c : Constants} {rule : Rule} (f : RuleFits c rule) where
 
   -- The remainder of a new moon.
   module _ {r : ℕ} where
+    pub thirty-fits : r < rule .shortfall → Fits w64 (30 * r)
+    thirty-fits h = omega (arith, f .lunar-small, f .shortfall-small)
+
     pub thirty-fit : r < rule .shortfall → Fits w8 (30 * r / rule .shortfall)
     thirty-fit h = omega (arith, thirty-times c rule (f .holds) r h)
 
@@ -80,6 +83,6 @@ module _ (k : ℕ) {c : Constants} {rule : Rule} (constants-are : c ≡ constant
     pub picked-constants : (P : Constants → Type 0) → P (constantsOf system) → P c
     picked-constants P p = subst P (sym (constants-are ∙ ap constantsOf (sym is))) p
 
-    pub picked-answer : (f : Constants → Rule → Distance) {v : Distance} → v ≡ f c rule → v ≡ f (constantsOf system) (ruleOf system)
+    pub picked-answer : {A : Type 0} (f : Constants → Rule → A) {v : A} → v ≡ f c rule → v ≡ f (constantsOf system) (ruleOf system)
     picked-answer f given =
         given ∙ ap (λ x. f x rule) (constants-are ∙ ap constantsOf (sym is)) ∙ ap (f (constantsOf system)) (rule-is ∙ ap ruleOf (sym is))

@@ -1,19 +1,24 @@
 -- What is answered of submerged and extinguished days, for every input: paper 02, Q-10.
 use Prim.Native.Nat.{ℕ, _+_, _*_, _-_, _/_}
-use mathlib.Core.Bool.{Bool, cond, _||_}
+use mathlib.Core.Bool.{cond}
+use mathlib.Core.List.{List}
 use lib.Dec.{ltb, eqb}
+use lib.ListN.{getD, replicate}
 use Rattle.calendar.specs.declared.data.Constants.{Constants}
 use Rattle.calendar.specs.declared.data.RegisterDay.{RegisterDay}
-use Rattle.calendar.specs.Systems.{constantsOf}
+use Rattle.calendar.specs.Systems.{constantsOf, registerDay}
+use Rattle.calendar.specs.Month.{newMoonRemainder, monthHead}
+use Rattle.calendar.specs.ClosedForms.{firstMonth}
 use Rattle.reckoning.specs.declared.data.Moment.{Moment}
-use Rattle.reckoning.specs.declared.data.Year.{Year}
-use Rattle.reckoning.specs.ComputedRefusals.{outside}
+use Rattle.reckoning.specs.ComputedRefusals.{outside, yearRefusal}
+use Rattle.reckoning.specs.Filled.{filled}
 use Rattle.reckoning.specs.RefusalNumbers.{SYSTEM, DAY}
-use Rattle.reckoning.specs.Requests.{asRegisterDay, qiOf, yearOf}
-use Rattle.reckoning.specs.YearValue.{headIn, remainderIn}
+use Rattle.reckoning.specs.Requests.{asRegisterDay, answerUnless, qiOf}
 use Rattle.submerged_extinguished.specs.declared.data.Answer.{Answer}
 use Rattle.submerged_extinguished.specs.declared.data.Distance.{Distance}
 use Rattle.submerged_extinguished.specs.declared.data.Distance.the-variants.{Days, None}
+use Rattle.submerged_extinguished.specs.declared.data.Extinguished.{Extinguished}
+use Rattle.submerged_extinguished.specs.declared.data.ExtinguishedDays.{ExtinguishedDays}
 use Rattle.submerged_extinguished.specs.declared.rules.Rule.{Rule}
 use Rattle.submerged_extinguished.specs.Rules.{lastRule, ruleOf}
 
@@ -32,13 +37,10 @@ submergedBy c rule r =
 unfoldable pub extinguishedBy : Rule → ℕ → Distance
 extinguishedBy rule r = cond (ltb r (rule .shortfall)) (Days (30 * r / rule .shortfall)) None
 
--- Each by the rule that a system's number picks.
+-- By the rule that a system's number picks.
 abbrev pub submergedAfter : ℕ → ℕ → ℕ → Distance
 submergedAfter system parts units =
     submergedBy (constantsOf system) (ruleOf system) (exactRemainder (constantsOf system) parts units)
-
-abbrev pub extinguishedAfter : ℕ → ℕ → Distance
-extinguishedAfter system r = extinguishedBy (ruleOf system) r
 
 -- Refused: day 0 and no distance.
 abbrev pub noAnswer : ℕ → Answer
@@ -47,33 +49,58 @@ noAnswer refusal = record { refusal = refusal; day = asRegisterDay 0; distance =
 abbrev pub answerAt : RegisterDay → Distance → Answer
 answerAt day distance = record { refusal = 0; day = day; distance = distance }
 
--- A request of a system is refused SYSTEM where the system has no rule, then as the qi or the months that it asks for
--- were; or it is answered.
-abbrev pub answerBy : ℕ → ℕ → Answer → Answer
-answerBy system refusal answer =
-    cond (outside 1 lastRule system) (noAnswer SYSTEM) (cond (eqb refusal 0) answer (noAnswer refusal))
-
--- The submerged day of a qi, by the moment that is answered for it.
+-- The submerged day of a qi, by the moment that is answered for it. Refused SYSTEM where the system has no rule, then as
+-- the qi was.
 unfoldable pub submergedIn : ℕ → Moment → Answer
 submergedIn system qi =
-    answerBy system (qi .refusal) (answerAt (qi .day) (submergedAfter system (qi .parts) (qi .units)))
+    cond (outside 1 lastRule system)
+    (noAnswer SYSTEM)
+    (cond (eqb (qi .refusal) 0)
+    (answerAt (qi .day) (submergedAfter system (qi .parts) (qi .units)))
+    (noAnswer (qi .refusal)))
 
 -- Of qi i of a year.
 abbrev pub submergedOf : ℕ → ℕ → ℕ → Answer
 submergedOf system year i = submergedIn system (qiOf system year i)
 
--- A year, which has thirteen months at most, lacks a month at a place, from 1.
-abbrev pub lacksPlace : Year → ℕ → Bool
-lacksPlace months place = outside 1 13 place || ltb (months .count) place
+-- The extinguished day of the new moon of month k.
+abbrev pub extinguishedAt : Constants → Rule → ℕ → Extinguished
+extinguishedAt c rule k =
+    record { day = asRegisterDay (registerDay c (monthHead c k)); distance = extinguishedBy rule (newMoonRemainder c k) }
 
--- The extinguished day of the new moon at a place, by the months that are answered for its year; DAY where they lack it.
-unfoldable pub extinguishedIn : ℕ → Year → ℕ → Answer
-extinguishedIn system months place =
-    answerBy system (months .refusal)
-    (cond (lacksPlace months place)
-    (noAnswer DAY)
-    (answerAt (asRegisterDay (headIn months (place - 1))) (extinguishedAfter system (remainderIn months (place - 1)))))
+-- A place that is not used.
+abbrev pub unused : Extinguished
+unused = record { day = asRegisterDay 0; distance = None }
 
--- Of the new moon at a place of a year.
-abbrev pub extinguishedOf : ℕ → ℕ → ℕ → Answer
-extinguishedOf system year place = extinguishedIn system (yearOf system year) place
+abbrev pub noMoons : List Extinguished
+noMoons = replicate 13 unused
+
+-- Those of `count` months from month `first` on, in order, and unused places after them.
+unfoldable pub extinguishedFrom : Constants → Rule → ℕ → ℕ → ExtinguishedDays
+extinguishedFrom c rule first count =
+    record { refusal = 0; count = count; moons = filled (λ i. extinguishedAt c rule (first + i)) noMoons count }
+
+-- Those of year n.
+abbrev pub extinguishedDaysIn : Rule → Constants → ℕ → ExtinguishedDays
+extinguishedDaysIn rule c n = extinguishedFrom c rule (firstMonth c n) (firstMonth c (n + 1) - firstMonth c n)
+
+-- Refused: none.
+abbrev pub noDays : ℕ → ExtinguishedDays
+noDays refusal = record { refusal = refusal; count = 0; moons = noMoons }
+
+unfoldable pub extinguishedDaysOf : ℕ → ℕ → ExtinguishedDays
+extinguishedDaysOf system year =
+    cond (outside 1 lastRule system)
+    (noDays SYSTEM)
+    (answerUnless (yearRefusal system year) system year (extinguishedDaysIn (ruleOf system)) noDays)
+
+abbrev pub answerOn : Extinguished → Answer
+answerOn moon = answerAt (moon .day) (moon .distance)
+
+-- The extinguished day of the new moon at a place of a year, from 1; DAY where the year lacks it.
+unfoldable pub extinguishedOf : ℕ → ℕ → ℕ → Answer
+extinguishedOf system year place =
+    let days = extinguishedDaysOf system year in
+    cond (eqb (days .refusal) 0)
+    (cond (outside 1 (days .count) place) (noAnswer DAY) (answerOn (getD (days .moons) (place - 1) unused)))
+    (noAnswer (days .refusal))

@@ -7,6 +7,8 @@ pub mod Distances
 pub mod RuleHolds
 -- What is answered, for every input.
 pub mod Answers
+-- New moons as the code has them.
+pub mod Moons
 -- How each request can end, in the paper's words.
 pub mod Outcomes
 -- Bounds of machine words, under which the code's numbers fit.

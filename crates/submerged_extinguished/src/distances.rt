@@ -3,7 +3,7 @@ ghost use mathlib.Core.Path.{_≡_};
 ghost use Prim.Native.Nat.{_<_};
 ghost use Rattle.calendar.specs.Systems.{constantsOf};
 ghost use Rattle.submerged_extinguished.specs.Rules.{HasRule};
-ghost use Rattle.submerged_extinguished.specs.Answers.{exactRemainder, submergedBy, submergedAfter, extinguishedBy, extinguishedAfter};
+ghost use Rattle.submerged_extinguished.specs.Answers.{exactRemainder, submergedBy, submergedAfter, extinguishedBy};
 ghost use Rattle.submerged_extinguished.specs.WordBounds.{RuleFits};
 use crate::data::Distance;
 use crate::rules;
@@ -37,25 +37,14 @@ pub(crate) fn submerged(system: u32, parts: u32, units: u32) -> Distance
     }
 }
 
-fn extinguished_by(c: Constants, rule: Rule, remainder: u32) -> Distance
+// After a new moon with a remainder.
+pub(crate) fn extinguished_by(c: Constants, rule: Rule, remainder: u64) -> Distance
     requires { ⌜ RuleFits c rule ⌝ }
     ensures { λ r. ⌜ r ≡ extinguishedBy rule remainder ⌝ }
 {
-    let remainder = remainder as u64;
     if remainder < rule.shortfall {
         let days = 30 * remainder / rule.shortfall;
         return Distance::Days(days as u8);
     }
     Distance::None
-}
-
-// After a new moon with a remainder.
-pub(crate) fn extinguished(system: u32, remainder: u32) -> Distance
-    requires { ⌜ HasRule system ⌝ }
-    ensures { λ r. ⌜ r ≡ extinguishedAfter system remainder ⌝ }
-{
-    match system {
-        2 => extinguished_by(systems::jiyuan(), rules::jiyuan(), remainder),
-        _ => extinguished_by(systems::guantian(), rules::guantian(), remainder),
-    }
 }

@@ -4,11 +4,11 @@ use mathlib.Core.Path.{_≡_, refl}
 use mathlib.Core.List.{List, [], _∷_, _++_}
 use Rattle.reckoning.specs.ComputedRefusals.{yearRefusal, stepRefusal}
 use Rattle.reckoning.specs.Filled.{filled}
-use Rattle.reckoning.specs.Requests.{stepOf, monthsFrom, yearOf}
-use Rattle.submerged_extinguished.specs.Answers.{submergedBy, submergedIn, extinguishedBy, extinguishedIn}
+use Rattle.reckoning.specs.Requests.{stepOf}
+use Rattle.submerged_extinguished.specs.Answers.{submergedBy, submergedIn, extinguishedBy, extinguishedFrom, extinguishedDaysOf}
 use Rattle.text.specs.Decimal.{decimal}
 use Rattle.text.specs.Piece.{word, field, year, title, numbered, lastField}
-use Rattle.submerged_extinguished_pages.specs.DistancePages.{lineEnd, answerLine, submergedWord, qiLine, extinguishedWord, moonLine}
+use Rattle.submerged_extinguished_pages.specs.DistancePages.{lineEnd, distanceLine, submergedWord, qiLine, extinguishedWord, moonAt}
 
 -- "submerged G 1094"
 abbrev submerged-title : List ℕ
@@ -35,9 +35,9 @@ abbrev nought : List ℕ
 nought = 109 ∷ 111 ∷ 111 ∷ 110 ∷ 32 ∷ 57 ∷ 32 ∷ 50 ∷ 49 ∷ 50 ∷ 51 ∷ 52 ∷ 48 ∷ 55 ∷ 32 ∷ 48 ∷ 10 ∷ []
 
 pub submerged-lines : title submergedWord 1 1094 ++ (qiLine 1 1094 1 ++ qiLine 1 1094 2) ≡ submerged-title ++ (qi-line ++ no-submerged)
-unfolding submergedIn submergedBy stepOf stepRefusal decimal word field year title numbered lastField lineEnd answerLine
+unfolding submergedIn submergedBy stepOf stepRefusal decimal word field year title numbered lastField lineEnd distanceLine
 submerged-lines = refl
 
-pub extinguished-lines : title extinguishedWord 1 1094 ++ (moonLine 1 (yearOf 1 1094) 2 ++ moonLine 1 (yearOf 1 1101) 9) ≡ extinguished-title ++ (moon-line ++ nought)
-unfolding extinguishedIn extinguishedBy yearOf yearRefusal monthsFrom filled decimal word field year title numbered lastField lineEnd answerLine
+pub extinguished-lines : title extinguishedWord 1 1094 ++ (moonAt (extinguishedDaysOf 1 1094) 1 ++ moonAt (extinguishedDaysOf 1 1101) 8) ≡ extinguished-title ++ (moon-line ++ nought)
+unfolding extinguishedDaysOf extinguishedFrom extinguishedBy yearRefusal filled decimal word field year title numbered lastField lineEnd distanceLine
 extinguished-lines = refl

@@ -1,6 +1,6 @@
 -- Laws that serve several functions.
--- The line of an answer from its pieces.
-pub mod AnswerText
+-- The line of a qi or a new moon from its pieces.
+pub mod LineText
 -- The pages from their lines.
 pub mod PageText
 -- Lines, computed.

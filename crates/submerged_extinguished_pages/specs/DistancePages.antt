@@ -2,12 +2,13 @@
 use Prim.Native.Nat.{ℕ, _+_}
 use mathlib.Core.Bool.{true, false}
 use mathlib.Core.List.{List, [], _∷_, _++_}
-use Rattle.reckoning.specs.declared.data.Year.{Year}
-use Rattle.reckoning.specs.Requests.{yearOf}
+use lib.ListN.{getD}
 use Rattle.submerged_extinguished.specs.declared.data.Answer.{Answer}
 use Rattle.submerged_extinguished.specs.declared.data.Distance.{Distance}
 use Rattle.submerged_extinguished.specs.declared.data.Distance.the-variants.{Days, None}
-use Rattle.submerged_extinguished.specs.Answers.{submergedOf, extinguishedIn}
+use Rattle.submerged_extinguished.specs.declared.data.Extinguished.{Extinguished}
+use Rattle.submerged_extinguished.specs.declared.data.ExtinguishedDays.{ExtinguishedDays}
+use Rattle.submerged_extinguished.specs.Answers.{unused, submergedOf, extinguishedDaysOf}
 use Rattle.text.specs.Piece.{field, title, numbered, lastField, toldUnless, textsUpTo}
 
 -- The distance, '-' for none, and the line's end.
@@ -16,16 +17,19 @@ lineEnd (Days days) = lastField false days
 lineEnd None = lastField true 0
 
 -- A word, a number, the day of a qi or new moon, and the distance.
-unfoldable pub answerLine : List ℕ → ℕ → Answer → List ℕ
-answerLine bytes number v = numbered bytes number ++ (field (v .day .0) ++ lineEnd (v .distance))
+unfoldable pub distanceLine : List ℕ → ℕ → ℕ → Distance → List ℕ
+distanceLine bytes number day distance = numbered bytes number ++ (field day ++ lineEnd distance)
 
--- A page: its first line and those of its answers; or the line of its refusal, which each of them carries.
-unfoldable pub pageWith : List ℕ → ℕ → ℕ → Answer → List ℕ → List ℕ
-pageWith bytes system year first lines = toldUnless (first .refusal) (title bytes system year ++ lines)
+-- A page: its first line and those of its answers; or the line of its refusal.
+unfoldable pub pageWith : List ℕ → ℕ → ℕ → ℕ → List ℕ → List ℕ
+pageWith bytes system year refusal lines = toldUnless refusal (title bytes system year ++ lines)
 
 -- "qi", its number, its day, and the distance of its submerged day.
+abbrev pub qiTold : ℕ → Answer → List ℕ
+qiTold i v = distanceLine (113 ∷ 105 ∷ []) i (v .day .0) (v .distance)
+
 abbrev pub qiLine : ℕ → ℕ → ℕ → List ℕ
-qiLine system year i = answerLine (113 ∷ 105 ∷ []) i (submergedOf system year i)
+qiLine system year i = qiTold i (submergedOf system year i)
 
 -- Qi 0 to 24.
 unfoldable pub qiLines : ℕ → ℕ → List ℕ
@@ -35,17 +39,21 @@ qiLines system year = textsUpTo (qiLine system year) 25
 abbrev pub submergedWord : List ℕ
 submergedWord = 115 ∷ 117 ∷ 98 ∷ 109 ∷ 101 ∷ 114 ∷ 103 ∷ 101 ∷ 100 ∷ 32 ∷ []
 
--- The submerged days of a year, or the line of its refusal.
+-- The submerged days of a year, or the line of its refusal, which each answer carries.
 abbrev pub submergedPage : ℕ → ℕ → List ℕ
-submergedPage system year = pageWith submergedWord system year (submergedOf system year 0) (qiLines system year)
+submergedPage system year =
+    pageWith submergedWord system year ((submergedOf system year 0) .refusal) (qiLines system year)
 
 -- "moon", its place from 1, its day, and the distance of its extinguished day.
-abbrev pub moonLine : ℕ → Year → ℕ → List ℕ
-moonLine system months place = answerLine (109 ∷ 111 ∷ 111 ∷ 110 ∷ []) place (extinguishedIn system months place)
+abbrev pub moonLine : ℕ → Extinguished → List ℕ
+moonLine place moon = distanceLine (109 ∷ 111 ∷ 111 ∷ 110 ∷ []) place (moon .day .0) (moon .distance)
 
--- One for each month.
-unfoldable pub moonLines : ℕ → Year → List ℕ
-moonLines system months = textsUpTo (λ i. moonLine system months (i + 1)) (months .count)
+-- That of the i-th new moon, from 0.
+abbrev pub moonAt : ExtinguishedDays → ℕ → List ℕ
+moonAt days i = moonLine (i + 1) (getD (days .moons) i unused)
+
+unfoldable pub moonLines : ExtinguishedDays → List ℕ
+moonLines days = textsUpTo (moonAt days) (days .count)
 
 -- "extinguished "
 abbrev pub extinguishedWord : List ℕ
@@ -54,5 +62,5 @@ extinguishedWord = 101 ∷ 120 ∷ 116 ∷ 105 ∷ 110 ∷ 103 ∷ 117 ∷ 105 �
 -- The extinguished days of a year, or the line of its refusal.
 abbrev pub extinguishedPage : ℕ → ℕ → List ℕ
 extinguishedPage system year =
-    let months = yearOf system year in
-    pageWith extinguishedWord system year (extinguishedIn system months 1) (moonLines system months)
+    let days = extinguishedDaysOf system year in
+    pageWith extinguishedWord system year (days .refusal) (moonLines days)

@@ -5,7 +5,7 @@
 ghost use Rattle.text.specs.Put.{Put};
 ghost use Rattle.submerged_extinguished_pages.specs.DistancePages.{submergedPage, extinguishedPage};
 
-mod answers;
+mod line;
 mod whole;
 
 // The page of a year's submerged days.

@@ -1,16 +1,13 @@
-use mathlib.Core.Path.{refl}
+use mathlib.Core.Path.{refl, ap}
 use native.Mathlib.Omega.{arith}
 use Rattle.text.proofs.Putting.{all-put, put-last}
-use Rattle.submerged_extinguished_pages.proofs.PageText.{put-refused, wrote-page, first-asked, wrote-asked-moons, thirteen-most}
+use Rattle.submerged_extinguished_pages.proofs.PageText.{put-refused, wrote-page, days-most, wrote-asked-moons}
 use borrow.Author.Needs.{needs}
 use Rattle.submerged_extinguished_pages.proofs.whole.extinguished.Statement.{statement}
 use Rattle.submerged_extinguished_pages.proofs.whole.extinguished.Tie as tie
 
-year-requires : tie.Need-year-requires
-year-requires c κs = search needs
-
-extinguished-in-requires : tie.Need-extinguished-in-requires
-extinguished-in-requires c κs = search needs
+extinguished-days-requires : tie.Need-extinguished-days-requires
+extinguished-days-requires c κs = search needs
 
 refused-requires : tie.Need-refused-requires
 refused-requires c κs = search needs
@@ -22,9 +19,8 @@ returns : tie.Need-returns
 returns c =
     let written = c .before .before in
     let tested = written .before .before in
-    let asked = tested .before in
     all-put
-    (put-refused _ _ _ _ (first-asked _ _ (asked .before .year .ensures) (asked .extinguished-in .ensures)) (tested .if1 .taken)
+    (put-refused _ _ _ _ (ap (λ v. v .refusal) (tested .before .extinguished-days .ensures)) (tested .if1 .taken)
     (put-last (written .refused .ensures) refl))
     (omega arith)
 
@@ -35,7 +31,7 @@ title-requires : tie.Need-title-requires
 title-requires c κs = search needs
 
 moon-lines-requires : tie.Need-moon-lines-requires
-moon-lines-requires c κs = (omega arith, search thirteen-most)
+moon-lines-requires c κs = (omega arith, search days-most)
 
 same-length-2 : tie.Need-same-length-2
 same-length-2 c = search needs
@@ -45,11 +41,9 @@ returns-2 c =
     let lines = c .before .before in
     let titled = lines .before .before .before .before in
     let tested = titled .before .before .before in
-    let asked = tested .before in
-    let months = asked .before .year .ensures in (
-      wrote-page _ _ _ _ (first-asked _ _ months (asked .extinguished-in .ensures)) (tested .if1 .left) (titled .title .ensures)
-          (omega arith)
-          (wrote-asked-moons _ _ months (lines .moon-lines .ensures .0)),
+    let asked = tested .before .extinguished-days .ensures in (
+      wrote-page _ _ _ _ (ap (λ v. v .refusal) asked) (tested .if1 .left) (titled .title .ensures) (omega arith)
+          (wrote-asked-moons _ _ asked (lines .moon-lines .ensures .0)),
       omega arith,
     )
 
@@ -57,8 +51,7 @@ pub extinguished-spec : {M : Type 1} → statement M
 extinguished-spec =
     tie.close
     (tie.spec
-    year-requires
-    extinguished-in-requires
+    extinguished-days-requires
     refused-requires
     same-length
     returns

@@ -7,11 +7,11 @@ use Rattle.submerged_extinguished_pages.proofs.whole.qi_line.Tie as tie
 submerged-requires : tie.Need-submerged-requires
 submerged-requires c κs = search needs
 
-slice-aggregate-line : tie.Need-slice-aggregate-line
-slice-aggregate-line c = search needs
+slice-aggregate-put : tie.Need-slice-aggregate-put
+slice-aggregate-put c = search needs
 
-line-requires : tie.Need-line-requires
-line-requires c κs = search needs
+put-requires : tie.Need-put-requires
+put-requires c κs = search needs
 
 same-length : tie.Need-same-length
 same-length c = search needs
@@ -21,4 +21,4 @@ returns c = (search wrote-asked, omega arith)
 
 pub qi-line-spec : {M : Type 1} → statement M
 qi-line-spec =
-    tie.close (tie.spec submerged-requires slice-aggregate-line line-requires same-length returns)
+    tie.close (tie.spec submerged-requires slice-aggregate-put put-requires same-length returns)

@@ -1,3 +1,4 @@
+use mathlib.Core.Path.{refl, ap}
 use native.Mathlib.Omega.{arith}
 use Rattle.text.proofs.Putting.{all-put, put-last}
 use Rattle.submerged_extinguished_pages.proofs.PageText.{put-refused, wrote-page}
@@ -15,7 +16,13 @@ same-length : tie.Need-same-length
 same-length c = search needs
 
 returns : tie.Need-returns
-returns c = all-put (search (put-refused, put-last)) (omega arith)
+returns c =
+    let written = c .before .before in
+    let tested = written .before .before in
+    all-put
+    (put-refused _ _ _ _ (ap (λ v. v .refusal) (tested .before .submerged .ensures .0)) (tested .if1 .taken)
+    (put-last (written .refused .ensures) refl))
+    (omega arith)
 
 slice-aggregate-title : tie.Need-slice-aggregate-title
 slice-aggregate-title c = search needs
@@ -34,7 +41,7 @@ returns-2 c =
     let lines = c .before .before in
     let titled = lines .before .before .before .before in
     let tested = titled .before .before .before in (
-      wrote-page _ _ _ _ (tested .before .submerged .ensures .0) (tested .if1 .left) (titled .title .ensures) (omega arith)
+      wrote-page _ _ _ _ (ap (λ v. v .refusal) (tested .before .submerged .ensures .0)) (tested .if1 .left) (titled .title .ensures) (omega arith)
           (lines .qi-lines .ensures .0),
       omega arith,
     )

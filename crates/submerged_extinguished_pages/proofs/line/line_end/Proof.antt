@@ -1,8 +1,8 @@
 use native.Mathlib.Omega.{arith}
-use Rattle.submerged_extinguished_pages.proofs.AnswerText.{wrote-days, wrote-none}
+use Rattle.submerged_extinguished_pages.proofs.LineText.{wrote-days, wrote-none}
 use borrow.Author.Needs.{needs}
-use Rattle.submerged_extinguished_pages.proofs.answers.line_end.Statement.{statement}
-use Rattle.submerged_extinguished_pages.proofs.answers.line_end.Tie as tie
+use Rattle.submerged_extinguished_pages.proofs.line.line_end.Statement.{statement}
+use Rattle.submerged_extinguished_pages.proofs.line.line_end.Tie as tie
 
 enum-known-distance : tie.Need-enum-known-distance
 enum-known-distance c = search needs

@@ -1,8 +1,8 @@
 use native.Mathlib.Omega.{arith}
-use Rattle.submerged_extinguished_pages.proofs.AnswerText.{wrote-answer}
+use Rattle.submerged_extinguished_pages.proofs.LineText.{wrote-line}
 use borrow.Author.Needs.{needs}
-use Rattle.submerged_extinguished_pages.proofs.answers.line.Statement.{statement}
-use Rattle.submerged_extinguished_pages.proofs.answers.line.Tie as tie
+use Rattle.submerged_extinguished_pages.proofs.line.put.Statement.{statement}
+use Rattle.submerged_extinguished_pages.proofs.line.put.Tie as tie
 
 numbered-requires : tie.Need-numbered-requires
 numbered-requires c κs = search needs
@@ -17,8 +17,8 @@ same-length : tie.Need-same-length
 same-length c = search needs
 
 returns : tie.Need-returns
-returns c = (search wrote-answer, omega arith)
+returns c = (search wrote-line, omega arith)
 
-pub line-spec : {M : Type 1} → statement M
-line-spec =
+pub put-spec : {M : Type 1} → statement M
+put-spec =
     tie.close (tie.spec numbered-requires field-requires line-end-requires same-length returns)
