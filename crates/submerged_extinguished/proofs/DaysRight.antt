@@ -1,24 +1,29 @@
 -- Submerged and extinguished days: paper 02, Q-10, in the order of its sentences. What is said of an answer is said for
 -- every input; what is said of remainders, for every one that there can be.
-use Prim.Native.Nat.{ℕ, _*_, _≤_, _<_}
-use mathlib.Core.Path.{_≡_}
+use Prim.Native.Nat.{ℕ, _+_, _*_, _≤_, _<_}
+use mathlib.Core.Path.{_≡_, subst, sym, ap, _∙_}
 use mathlib.Core.Logic.{_↔_}
+use native.Mathlib.Omega.{arith}
+use lib.ListN.{getD}
 use Rattle.calendar.specs.declared.data.Constants.{Constants}
 use Rattle.calendar.specs.Systems.{guantian, jiyuan, constantsOf}
 use Rattle.calendar.specs.Month.{newMoonRemainder, monthLength}
 use Rattle.calendar.proofs.EachSystem.{consistent}
+use Rattle.reckoning.specs.Requests.{qiOf}
+use Rattle.reckoning.specs.Scope.{YearInScope, InScope}
+use Rattle.submerged_extinguished.specs.declared.data.Answer.{Answer}
 use Rattle.submerged_extinguished.specs.declared.data.Distance.{Distance}
 use Rattle.submerged_extinguished.specs.declared.data.Distance.the-variants.{Days, None}
 use Rattle.submerged_extinguished.specs.declared.rules.Rule.{Rule}
 use Rattle.submerged_extinguished.specs.Rules.{guantianRule, jiyuanRule, HasRule, ruleOf}
 use Rattle.submerged_extinguished.specs.Distances.{SubmergedSays, ExtinguishedSays, GuantianSays, JiyuanSays}
-use Rattle.submerged_extinguished.specs.Answers.{exactRemainder, submergedBy, extinguishedBy, submergedOf, extinguishedOf}
-use Rattle.submerged_extinguished.specs.Outcomes.{SubmergedOutcome, ExtinguishedOutcome}
+use Rattle.submerged_extinguished.specs.Answers.{exactRemainder, submergedBy, extinguishedBy, submergedOf, unused, extinguishedDaysOf, answerOn, extinguishedOf}
+use Rattle.submerged_extinguished.specs.Outcomes.{Refused, SubmergedOutcome, ExtinguishedOutcome}
 use Rattle.submerged_extinguished.proofs.RuleLaws as Rules
 use Rattle.submerged_extinguished.proofs.EachRule as Each
 use Rattle.submerged_extinguished.proofs.MoonLaws as Moons
-use Rattle.submerged_extinguished.proofs.SubmergedEnds.{submerged-outcome}
-use Rattle.submerged_extinguished.proofs.ExtinguishedEnds.{extinguished-outcome}
+use Rattle.submerged_extinguished.proofs.SubmergedEnds.{by-qi, says-of-qi, submerged-outcome}
+use Rattle.submerged_extinguished.proofs.ExtinguishedEnds.{extinguished-outcome, one-by-one}
 
 -- Each is answered as a distance after its qi's or new moon's day, or none; system 3 is refused 4 (SYSTEM), then a year 5
 -- (YEAR), then a qi above 24 is refused 9 (STEP) and a place that the year lacks 7 (DAY).
@@ -37,6 +42,25 @@ guantian-words = Each.guantian-words
 pub jiyuan-words : (parts units : ℕ) → parts < 7290 → units < 4 → (d : Distance)
     → SubmergedSays jiyuan jiyuanRule (exactRemainder jiyuan parts units) d ↔ JiyuanSays parts units d
 jiyuan-words = Each.jiyuan-words
+
+-- So each answer in scope says them of its qi's parts and small units.
+pub guantian-qi : (year i : ℕ) → YearInScope year → i ≤ 24
+    → GuantianSays ((qiOf 1 year i) .parts) ((qiOf 1 year i) .units) ((submergedOf 1 year i) .distance)
+guantian-qi year i y h =
+    let qi = qiOf 1 year i in
+    let scope : InScope 1 year = record { system-inside = omega arith; year-inside = y } in
+    let given = by-qi 1 year i (omega arith) scope h in
+    guantian-words (qi .parts) (qi .units) (given .1) (given .2) ((submergedOf 1 year i) .distance) .0
+    (says-of-qi 1 year i (omega arith) scope h)
+
+pub jiyuan-qi : (year i : ℕ) → YearInScope year → i ≤ 24
+    → JiyuanSays ((qiOf 2 year i) .parts) ((qiOf 2 year i) .units) ((submergedOf 2 year i) .distance)
+jiyuan-qi year i y h =
+    let qi = qiOf 2 year i in
+    let scope : InScope 2 year = record { system-inside = omega arith; year-inside = y } in
+    let given = by-qi 2 year i (omega arith) scope h in
+    jiyuan-words (qi .parts) (qi .units) (given .1) (given .2) ((submergedOf 2 year i) .distance) .0
+    (says-of-qi 2 year i (omega arith) scope h)
 
 module _ (system : ℕ) (has : HasRule system) where
   abbrev c : Constants
@@ -73,3 +97,38 @@ module _ (system : ℕ) (has : HasRule system) where
   -- So a new moon has an extinguished day exactly when its month has 29 days.
   pub in-short-months : (k : ℕ) → (newMoonRemainder c k < rule .shortfall) ↔ (monthLength c k ≡ 29)
   in-short-months = Moons.in-short-months c (consistent system) rule (Each.rule-holds system has)
+
+-- The same ranges, of the answers, whatever is asked.
+abbrev IsNone : Distance → Type 0
+IsNone None = Unit {0}
+IsNone (Days days) = ⊥
+
+refused-none : {number : ℕ} {v : Answer} {days : ℕ} → Refused number v → v .distance ≡ Days days → ⊥
+refused-none refused e = subst IsNone (sym (refused .no-distance) ∙ e) tt
+
+pub submerged-answers : (system year i days : ℕ) → (submergedOf system year i) .distance ≡ Days days → (1 ≤ days) × (days ≤ 16)
+submerged-answers system year i days e = by-outcome (submerged-outcome system year i)
+  where
+    by-outcome : SubmergedOutcome system year i (submergedOf system year i) → (1 ≤ days) × (days ≤ 16)
+    by-outcome (SubmergedOutcome.system-refused none refused) = absurd (refused-none refused e)
+    by-outcome (SubmergedOutcome.year-refused has none refused) = absurd (refused-none refused e)
+    by-outcome (SubmergedOutcome.qi-refused has y past refused) = absurd (refused-none refused e)
+    by-outcome (SubmergedOutcome.found f) =
+        one-to-sixteen system (f .has-rule) (f .remainder) (f .falls .below) days
+        (subst (SubmergedSays (constantsOf system) (ruleOf system) (f .remainder)) e (f .says))
+
+pub extinguished-answers : (system year place days : ℕ) → (extinguishedOf system year place) .distance ≡ Days days → days ≤ 29
+extinguished-answers system year place days e = by-outcome (extinguished-outcome system year place)
+  where
+    by-outcome : ExtinguishedOutcome system year place (extinguishedOf system year place) → days ≤ 29
+    by-outcome (ExtinguishedOutcome.system-refused none refused) = absurd (refused-none refused e)
+    by-outcome (ExtinguishedOutcome.year-refused has none refused) = absurd (refused-none refused e)
+    by-outcome (ExtinguishedOutcome.place-refused has y lacks refused) = absurd (refused-none refused e)
+    by-outcome (ExtinguishedOutcome.found f) =
+        zero-to-twenty-nine system (f .has-rule) (newMoonRemainder (constantsOf system) (f .k)) days
+        (subst (ExtinguishedSays (ruleOf system) (newMoonRemainder (constantsOf system) (f .k))) e (f .says))
+
+-- A year's extinguished days are told at once too: each as it is by itself, and as many as the year has months.
+pub listed-alike : (system year i : ℕ) → i < (extinguishedDaysOf system year) .count
+    → answerOn (getD ((extinguishedDaysOf system year) .moons) i unused) ≡ extinguishedOf system year (i + 1)
+listed-alike = one-by-one

@@ -29,7 +29,7 @@ use Rattle.submerged_extinguished.specs.Answers.{noDays, extinguishedDay
 use Rattle.submerged_extinguished.specs.Outcomes as O
 use Rattle.submerged_extinguished.proofs.RuleLaws.{extinguished-says}
 use Rattle.submerged_extinguished.proofs.EachRule.{rule-holds}
-use Rattle.submerged_extinguished.proofs.SubmergedEnds.{system-in-scope}
+use Rattle.submerged_extinguished.proofs.SubmergedEnds.{blank, system-in-scope}
 
 -- The answer at a place, by its year's extinguished days.
 module _ (system year place : ℕ) where
@@ -127,7 +127,7 @@ module _ (system year : ℕ) (has : HasRule system) where
           (λ e out.
           O.ExtinguishedOutcome.place-refused has (s .year-inside)
           (λ k at. let w = within k at in out (record { at-least = w .0; at-most = w .1 }))
-          (of-lacking system year place accepted e))
+          (blank (of-lacking system year place accepted e)))
           (λ e into.
           let is = of-place system year place accepted e ∙ ap answerOn (of-month (place - 1) (omega (arith, into))) in
           O.ExtinguishedOutcome.found
@@ -138,14 +138,14 @@ extinguished-outcome system year place =
     by-inside 1 lastRule system
     (λ e none.
     O.ExtinguishedOutcome.system-refused none
-    (of-refused system year place SYSTEM (ap (λ v. v .refusal) (no-rule system year e)) (λ z. omega arith)))
+    (blank (of-refused system year place SYSTEM (ap (λ v. v .refusal) (no-rule system year e)) (λ z. omega arith))))
     (λ e has.
     by-scope system year
     (λ none refusal. absurd (none (system-in-scope system has)))
     (λ s none refusal.
-    let blank = days-refused system year has YEAR refusal (omega arith) in
+    let none-listed = days-refused system year has YEAR refusal (omega arith) in
     O.ExtinguishedOutcome.year-refused has none
-    (of-refused system year place YEAR (ap (λ v. v .refusal) blank) (λ z. omega arith)))
+    (blank (of-refused system year place YEAR (ap (λ v. v .refusal) none-listed) (λ z. omega arith))))
     (λ s. place-outcome system year has s place))
 
 -- There are thirteen at most; one that is refused has none.
@@ -158,6 +158,27 @@ thirteen-most system year =
     (λ none refusal. absurd (none (system-in-scope system has)))
     (λ s none refusal. omega (arith, ap (λ v. v .count) (days-refused system year has YEAR refusal (omega arith))))
     (λ s. omega (arith, counted system year has s, in-register system year has s .count-most)))
+
+-- Where any is listed, the year was not refused.
+listed-accepted : (system year i : ℕ) → i < (extinguishedDaysOf system year) .count → (extinguishedDaysOf system year) .refusal ≡ 0
+listed-accepted system year i h =
+    by-inside 1 lastRule system
+    (λ e none. absurd (omega (arith, ap (λ v. v .count) (no-rule system year e))))
+    (λ e has.
+    by-scope system year
+    (λ none refusal. absurd (none (system-in-scope system has)))
+    (λ s none refusal. absurd (omega (arith, ap (λ v. v .count) (days-refused system year has YEAR refusal (omega arith)))))
+    (λ s. accepted system year has s))
+
+-- Each of a year's is the answer by itself.
+pub one-by-one : (system year i : ℕ) → i < (extinguishedDaysOf system year) .count
+    → answerOn (getD ((extinguishedDaysOf system year) .moons) i unused) ≡ extinguishedOf system year (i + 1)
+one-by-one system year i h =
+    let count = (extinguishedDaysOf system year) .count in
+    let here : i + 1 - 1 ≡ i = omega arith in
+    let within : outside 1 count (i + 1) ≡ false = inside 1 count (i + 1) (record { at-least = omega arith; at-most = omega arith }) in
+    ap (λ k. answerOn (getD ((extinguishedDaysOf system year) .moons) k unused)) (sym here)
+    ∙ sym (of-place system year (i + 1) (listed-accepted system year i h) within)
 
 -- What the code returns, by the days that it asked for.
 pub promised : {v : Answer} (system year place : ℕ) → v ≡ extinguishedOf system year place

@@ -18,6 +18,7 @@ use Rattle.reckoning.proofs.AnswersRight.{qi-holds}
 use Rattle.submerged_extinguished.specs.declared.data.Answer.{Answer}
 use Rattle.submerged_extinguished.specs.declared.data.Distance.{Distance}
 use Rattle.submerged_extinguished.specs.Rules.{lastRule, HasRule, ruleOf}
+use Rattle.submerged_extinguished.specs.Distances.{SubmergedSays}
 use Rattle.submerged_extinguished.specs.Answers.{exactRemainder, submergedAfter, noAnswer, answerAt}
 use Rattle.submerged_extinguished.specs.Answers.{submergedIn, submergedOf}
 use Rattle.submerged_extinguished.specs.Outcomes as O
@@ -26,6 +27,11 @@ use Rattle.submerged_extinguished.proofs.EachRule.{rule-holds}
 
 abbrev answer-by : ℕ → Moment → Answer
 answer-by system qi = answerAt (qi .day) (submergedAfter system (qi .parts) (qi .units))
+
+-- A blank answer is a refused one.
+pub blank : {v : Answer} {number : ℕ} → v ≡ noAnswer number → O.Refused number v
+blank is =
+    record { carries = ap (λ w. w .refusal) is; no-day = ap (λ w. w .day .0) is; no-distance = ap (λ w. w .distance) is }
 
 -- A system that has a rule: the request is refused as the qi was, or answered.
 module _ (system : ℕ) (has : HasRule system) (qi : Moment) where
@@ -51,6 +57,22 @@ module _ (system year i : ℕ) (has : HasRule system) where
   abbrev qi : Moment
   qi = qiOf system year i
 
+  -- By the parts and small units that are answered for the qi, below their bounds.
+  pub by-qi : InScope system year → i ≤ 24
+      → (submergedOf system year i ≡ answer-by system qi) × (qi .parts < c .solar) × (qi .units < c .units)
+  by-qi s h =
+      let is = qi-holds system year s i h in
+      (answered-as system has qi (is .accepted), is .parts-below, is .units-below)
+
+  pub says-of-qi : InScope system year → i ≤ 24
+      → SubmergedSays c (ruleOf system) (exactRemainder c (qi .parts) (qi .units)) ((submergedOf system year i) .distance)
+  says-of-qi s h =
+      let given = by-qi s h in
+      let r = exactRemainder c (qi .parts) (qi .units) in
+      let below = remainder-below c (qi .parts) (qi .units) (given .1) (given .2) in
+      subst (SubmergedSays c (ruleOf system) r) (sym (ap (λ v. v .distance) (given .0)))
+      (submerged-says c (ruleOf system) (rule-holds system has) r below)
+
   qi-refused : (number : ℕ) → qiRefusal system year i ≡ number → 0 < number → submergedOf system year i ≡ noAnswer number
   qi-refused number e some =
       let blank = qi-blank system year i (λ z. omega arith) in
@@ -74,22 +96,25 @@ module _ (system year i : ℕ) (has : HasRule system) where
         says = submerged-says c (ruleOf system) (rule-holds system has) r below;
       })
 
-pub submerged-outcome : (system year i : ℕ) → O.SubmergedOutcome system year i (submergedOf system year i)
+no-rule-blank : (system : ℕ) (qi : Moment) → outside 1 lastRule system ≡ true → submergedIn system qi ≡ noAnswer SYSTEM
 unfolding submergedIn
+no-rule-blank system qi out = simp out
+
+pub submerged-outcome : (system year i : ℕ) → O.SubmergedOutcome system year i (submergedOf system year i)
 submerged-outcome system year i =
     by-inside 1 lastRule system
-    (λ e none. O.SubmergedOutcome.system-refused none (simp e))
+    (λ e none. O.SubmergedOutcome.system-refused none (blank (no-rule-blank system (qiOf system year i) e)))
     (λ e has.
     by-scope system year
     (λ none refusal. absurd (none (system-in-scope system has)))
     (λ s none refusal.
     let unseen = step-unseen 24 system year i (λ z. omega arith) in
-    O.SubmergedOutcome.year-refused has none (qi-refused system year i has YEAR (sym unseen ∙ refusal) (omega arith)))
+    O.SubmergedOutcome.year-refused has none (blank (qi-refused system year i has YEAR (sym unseen ∙ refusal) (omega arith))))
     (λ s.
     by-order 24 i
     (λ past.
     O.SubmergedOutcome.qi-refused has (s .year-inside) past
-    (qi-refused system year i has STEP (step-refused 24 system year i s past) (omega arith)))
+    (blank (qi-refused system year i has STEP (step-refused 24 system year i s past) (omega arith))))
     (λ h. O.SubmergedOutcome.found (qi-found system year i has s h))))
 
 -- A qi that carries no refusal was not refused.
@@ -106,8 +131,7 @@ promised system year i is = (is, subst (O.SubmergedOutcome system year i) (sym i
 
 module _ (system year i : ℕ) {b : Bool} (test : b ≡ outside 1 lastRule system) where
   pub no-rule : {v : Answer} → b ≡ true → v ≡ noAnswer SYSTEM → v ≡ submergedOf system year i
-  unfolding submergedIn
-  no-rule out is = is ∙ simp (sym test ∙ out)
+  no-rule out is = is ∙ sym (no-rule-blank system (qiOf system year i) (sym test ∙ out))
 
   module _ {qi : Moment} (asked : qi ≡ qiOf system year i) (into : b ≡ false) where
     pub returns-refusal : {v : Answer} → (qi .refusal ≡ 0 → ⊥) → v ≡ noAnswer (qi .refusal) → v ≡ submergedOf system year i

@@ -9,9 +9,15 @@ use Rattle.calendar.specs.Year.{InYear}
 use Rattle.reckoning.specs.RefusalNumbers.{SYSTEM, YEAR, DAY, STEP}
 use Rattle.reckoning.specs.Scope.{YearInScope}
 use Rattle.submerged_extinguished.specs.declared.data.Answer.{Answer}
+use Rattle.submerged_extinguished.specs.declared.data.Distance.the-variants.{None}
 use Rattle.submerged_extinguished.specs.Rules.{HasRule, ruleOf}
 use Rattle.submerged_extinguished.specs.Distances.{SubmergedSays, ExtinguishedSays}
-use Rattle.submerged_extinguished.specs.Answers.{noAnswer}
+
+-- Refused: the number, day 0 and no distance.
+pub record Refused (number : ℕ) (v : Answer) : Type 0 where
+  pub carries : v .refusal ≡ number
+  pub no-day : v .day .0 ≡ 0
+  pub no-distance : v .distance ≡ None
 
 -- Qi i of year n falls on count day `day`, and `remainder` small units, less than a day has, are left over.
 pub record QiFalls (c : Constants) (n i day remainder : ℕ) : Type 0 where
@@ -32,9 +38,9 @@ pub record SubmergedFound (system year i : ℕ) (v : Answer) : Type 0 where
 
 -- Refused SYSTEM, then YEAR, then STEP for a qi above 24; or answered.
 pub data SubmergedOutcome (system year i : ℕ) (v : Answer) : Type 0 where
-  system-refused : (HasRule system → ⊥) → v ≡ noAnswer SYSTEM → SubmergedOutcome system year i v
-  year-refused : HasRule system → (YearInScope year → ⊥) → v ≡ noAnswer YEAR → SubmergedOutcome system year i v
-  qi-refused : HasRule system → YearInScope year → 24 < i → v ≡ noAnswer STEP → SubmergedOutcome system year i v
+  system-refused : (HasRule system → ⊥) → Refused SYSTEM v → SubmergedOutcome system year i v
+  year-refused : HasRule system → (YearInScope year → ⊥) → Refused YEAR v → SubmergedOutcome system year i v
+  qi-refused : HasRule system → YearInScope year → 24 < i → Refused STEP v → SubmergedOutcome system year i v
   found : SubmergedFound system year i v → SubmergedOutcome system year i v
 
 -- A new moon is named by its place in year n, from 1: that of month k, which it begins.
@@ -54,11 +60,11 @@ pub record ExtinguishedFound (system year place : ℕ) (v : Answer) : Type 0 whe
 
 -- Refused SYSTEM, then YEAR, then DAY for a place that the year lacks; or answered.
 pub data ExtinguishedOutcome (system year place : ℕ) (v : Answer) : Type 0 where
-  system-refused : (HasRule system → ⊥) → v ≡ noAnswer SYSTEM → ExtinguishedOutcome system year place v
-  year-refused : HasRule system → (YearInScope year → ⊥) → v ≡ noAnswer YEAR → ExtinguishedOutcome system year place v
+  system-refused : (HasRule system → ⊥) → Refused SYSTEM v → ExtinguishedOutcome system year place v
+  year-refused : HasRule system → (YearInScope year → ⊥) → Refused YEAR v → ExtinguishedOutcome system year place v
   place-refused : HasRule system
       → YearInScope year
       → ((k : ℕ) → AtPlace (constantsOf system) (yearsElapsed (constantsOf system) year) place k → ⊥)
-      → v ≡ noAnswer DAY
+      → Refused DAY v
       → ExtinguishedOutcome system year place v
   found : ExtinguishedFound system year place v → ExtinguishedOutcome system year place v
