@@ -88,6 +88,8 @@ reads_records chiselbrow-renew 'usage: chiselbrow-renew [--help | --version] < r
 forms='almanac year SYSTEM YEAR [LAST]
 almanac pentads SYSTEM YEAR [LAST]
 almanac pentad SYSTEM DAY [LAST]
+almanac submerged SYSTEM YEAR [LAST]
+almanac extinguished SYSTEM YEAR [LAST]
 almanac compare FIRST SECOND YEAR [LAST]'
 about almanac "usage: ${forms//$'\n'/ | } (see almanac --help)" "$forms"
 unwritable
@@ -134,6 +136,20 @@ wrong pentad 1 2120808 --help
 wrong pentad --help
 wrong penta 1 2120808
 wrong pentadss 1 1092
+for request in submerged extinguished; do
+    wrong "${request^}" 1 1094
+    wrong "$request"
+    wrong "$request" 1
+    wrong "$request" 1 ''
+    wrong "$request" G 1094
+    wrong "$request" 1 -1094
+    wrong "$request" 1 1094 x
+    wrong "$request" 1 1094 1096 1098
+    wrong "$request" 1 1094 --help
+    wrong "$request" --help
+    wrong "${request}s" 1 1094
+    wrong "${request%d}" 1 1094
+done
 wrong Compare 1 2 1094
 wrong compare
 wrong compare 1

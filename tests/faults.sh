@@ -217,6 +217,12 @@ in_pieces 12
 asked pentad 1 1720000 1735000
 every_write 2
 
+# Submerged and extinguished days, with a refusal at the end and at the beginning.
+asked submerged 1 2997 3001
+in_pieces 3
+asked extinguished 2 0 6
+in_pieces 3
+
 # Comparisons: 13 places, none, and a refusal.
 asked compare 1 2 2881 3001
 in_pieces 2

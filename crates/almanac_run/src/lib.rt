@@ -104,16 +104,16 @@ fn help() -> u32
         pentad prints the pentad in force at the end of the register day DAY, a Julian\n\
         Day Number, or of each day from DAY to LAST, with its year, which runs from\n\
         solstice to solstice.\n\
-        submerged prints, for each qi of YEAR, or of each year from YEAR to LAST, its\n\
-        register day and how many days after it its submerged day lies, or -;\n\
+        submerged prints the day of each qi of YEAR, or of each year from YEAR to LAST,\n\
+        and how many days after it the submerged day of the qi lies, or - for none.\n\
         extinguished prints the same of the new moon of each month and its extinguished\n\
-        day. Only Guantian and Jiyuan have such days.\n\
+        day. Both are for Guantian and Jiyuan only.\n\
         compare prints where the months of YEAR, or of each year from YEAR to LAST,\n\
         differ between the calendars with the numbers FIRST and SECOND.\n\
-        In place of a page or line stands `refused 4` if there is no such calendar,\n\
-        `refused 5` if the year is outside 1 to 3000, and `refused 7` if the day is\n\
-        outside these years as counted from solstice to solstice: 1721414 to 2817144,\n\
-        and for Jingchu 1721416 to 2817156.\n\
+        In place of a page or line stands `refused 4` if there is no such calendar, or\n\
+        not for this request, `refused 5` if the year is outside 1 to 3000, and\n\
+        `refused 7` if the day is outside these years as counted from solstice to\n\
+        solstice: 1721414 to 2817144, and for Jingchu 1721416 to 2817156.\n\
         The manual page almanac(1) tells the lines and the exit status.\n";
     exit::reply(text, b"almanac: standard output")
 }
