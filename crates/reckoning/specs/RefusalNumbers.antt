@@ -1,5 +1,5 @@
--- The numbers of the refusals: paper 01, "Numbered refusals", and paper 02, Q-3, Q-4 and Q-7. Each name says what is
--- wrong, as in include/chiselbrow.h.
+-- The numbers of the refusals: paper 01, "Numbered refusals", and paper 02, Q-3, Q-4, Q-7 and Q-10. Each name says what
+-- is wrong, as in include/chiselbrow.h.
 use Prim.Native.Nat.{ℕ}
 
 -- The input is too short to be a record.
@@ -26,7 +26,7 @@ YEAR = 5
 abbrev pub MONTH : ℕ
 MONTH = 6
 
--- The month or the year has no such day, or the register day is out of scope.
+-- The month or the year has no such day, or the register day is out of scope; or the year has no such place.
 abbrev pub DAY : ℕ
 DAY = 7
 

@@ -1,14 +1,16 @@
 -- Submerged and extinguished days: paper 02, Q-10, in the order of its sentences. What is said of an answer is said for
 -- every input; what is said of remainders, for every one that there can be.
 use Prim.Native.Nat.{ℕ, _+_, _*_, _≤_, _<_}
-use mathlib.Core.Path.{_≡_, subst, sym, ap, _∙_}
+use mathlib.Core.Path.{_≡_, subst, sym, _∙_}
 use mathlib.Core.Logic.{_↔_}
 use native.Mathlib.Omega.{arith}
 use lib.ListN.{getD}
 use Rattle.calendar.specs.declared.data.Constants.{Constants}
-use Rattle.calendar.specs.Systems.{guantian, jiyuan, constantsOf}
+use Rattle.calendar.specs.Systems.{guantian, jiyuan, constantsOf, yearsElapsed}
 use Rattle.calendar.specs.Month.{newMoonRemainder, monthLength}
+use Rattle.calendar.specs.Year.{Span, monthCount}
 use Rattle.calendar.proofs.EachSystem.{consistent}
+use Rattle.calendar.proofs.Spans.{span-first, span-next}
 use Rattle.reckoning.specs.Requests.{qiOf}
 use Rattle.reckoning.specs.Scope.{YearInScope, InScope}
 use Rattle.submerged_extinguished.specs.declared.data.Answer.{Answer}
@@ -23,7 +25,7 @@ use Rattle.submerged_extinguished.proofs.RuleLaws as Rules
 use Rattle.submerged_extinguished.proofs.EachRule as Each
 use Rattle.submerged_extinguished.proofs.MoonLaws as Moons
 use Rattle.submerged_extinguished.proofs.SubmergedEnds.{by-qi, says-of-qi, submerged-outcome}
-use Rattle.submerged_extinguished.proofs.ExtinguishedEnds.{extinguished-outcome, one-by-one}
+use Rattle.submerged_extinguished.proofs.ExtinguishedEnds.{extinguished-outcome, counted, one-by-one, past-the-last}
 
 -- Each is answered as a distance after its qi's or new moon's day, or none; system 3 is refused 4 (SYSTEM), then a year 5
 -- (YEAR), then a qi above 24 is refused 9 (STEP) and a place that the year lacks 7 (DAY).
@@ -128,7 +130,22 @@ extinguished-answers system year place days e = by-outcome (extinguished-outcome
         zero-to-twenty-nine system (f .has-rule) (newMoonRemainder (constantsOf system) (f .k)) days
         (subst (ExtinguishedSays (ruleOf system) (newMoonRemainder (constantsOf system) (f .k))) e (f .says))
 
--- A year's extinguished days are told at once too: each as it is by itself, and as many as the year has months.
+-- A year's extinguished days are told at once too: as many as the year has months,
+pub listed-months : (system year : ℕ) → HasRule system → InScope system year
+    → (y : Span (constantsOf system) (yearsElapsed (constantsOf system) year))
+    → (extinguishedDaysOf system year) .count ≡ monthCount y
+listed-months system year has s y =
+    let c = constantsOf system in
+    let first = span-first c (consistent system) y in
+    let next = span-next c (consistent system) y in
+    omega (arith, counted system year has s)
+
+-- each as it is by itself,
 pub listed-alike : (system year i : ℕ) → i < (extinguishedDaysOf system year) .count
     → answerOn (getD ((extinguishedDaysOf system year) .moons) i unused) ≡ extinguishedOf system year (i + 1)
 listed-alike = one-by-one
+
+-- and after them, or where the year is refused, day 0 and no distance.
+pub unlisted : (system year i : ℕ) → (extinguishedDaysOf system year) .count ≤ i
+    → getD ((extinguishedDaysOf system year) .moons) i unused ≡ record { day = record { 0 = 0 }; distance = None }
+unlisted = past-the-last

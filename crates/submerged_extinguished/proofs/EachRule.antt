@@ -1,10 +1,11 @@
 -- The list, checked for each system that has a rule, and the rule in each system's own words.
 use Prim.Native.Nat.{ℕ, _+_, _*_, _-_, _<_}
-use mathlib.Core.Path.{_≡_, subst, sym, ap, _∙_}
+use mathlib.Core.Path.{_≡_, refl, subst}
 use mathlib.Core.Logic.{_↔_}
 use native.Mathlib.Omega.{arith}
 use Rattle.calendar.specs.declared.data.Constants.{Constants}
 use Rattle.calendar.specs.Systems.{guantian, jiyuan, constantsOf}
+use Rattle.calendar.specs.Steps.{step}
 use Rattle.calendar.proofs.Rising.{by-order}
 use Rattle.submerged_extinguished.specs.declared.data.Distance.{Distance}
 use Rattle.submerged_extinguished.specs.declared.data.Distance.the-variants.{Days, None}
@@ -37,6 +38,14 @@ rule-fits =
     each-rule RuleFits
     (record { holds = guantian-holds; day-small = omega arith; minuend-small = omega arith; lunar-small = omega arith; shortfall-small = omega arith })
     (record { holds = jiyuan-holds; day-small = omega arith; minuend-small = omega arith; lunar-small = omega arith; shortfall-small = omega arith })
+
+-- The limit and what a qi's step has beyond fifteen days make a day: exactly in Jiyuan, and in Guantian with 12 small
+-- units more, since its limit is in whole parts.
+pub guantian-limit : guantianRule .limit + (step guantian 24 (guantian .units) - 15 * (12_030 * 36)) ≡ 12_030 * 36 + 12
+guantian-limit = refl
+
+pub jiyuan-limit : jiyuanRule .limit + (step jiyuan 24 (jiyuan .units) - 15 * (7290 * 4)) ≡ 7290 * 4
+jiyuan-limit = refl
 
 -- Each system's own words, for every remainder that there can be.
 pub guantian-words : (parts units : ℕ) → parts < 12_030 → units < 36 → (d : Distance)

@@ -1,7 +1,7 @@
 -- Answers, computed: at the limits, beside them, and refused.
 use Prim.Native.Nat.{ℕ}
 use mathlib.Core.Path.{_≡_, refl}
-use mathlib.Core.List.{List, [], _∷_, _++_, map}
+use mathlib.Core.List.{[], _∷_, _++_, map}
 use Rattle.reckoning.specs.ComputedRefusals.{yearRefusal, stepRefusal}
 use Rattle.reckoning.specs.Filled.{filled}
 use Rattle.reckoning.specs.Requests.{asRegisterDay, stepOf}

@@ -6,7 +6,7 @@ use native.Mathlib.Omega.{arith}
 use lib.ListN.{getD}
 use borrow.Author.Tests.{eq-eqb, ne-eqb}
 use Rattle.calendar.specs.declared.data.Constants.{Constants}
-use Rattle.calendar.specs.Systems.{constantsOf, yearsElapsed, registerDay}
+use Rattle.calendar.specs.Systems.{constantsOf, yearsElapsed}
 use Rattle.calendar.specs.ClosedForms.{firstMonth}
 use Rattle.calendar.proofs.EachSystem.{consistent}
 use Rattle.calendar.proofs.EveryCalendar.{count-least}
@@ -17,7 +17,7 @@ use Rattle.reckoning.specs.RefusalNumbers.{SYSTEM, YEAR, DAY}
 use Rattle.reckoning.specs.Scope.{InScope}
 use Rattle.reckoning.specs.WordBounds.{MonthsInRegister}
 use Rattle.reckoning.proofs.AnswerUnless.{refused-year, answered-year}
-use Rattle.reckoning.proofs.FilledLaws.{filled-below}
+use Rattle.reckoning.proofs.FilledLaws.{filled-below, filled-past, replicate-reads}
 use Rattle.reckoning.proofs.RefusalCases.{by-inside, by-scope, inside, inside-of}
 use Rattle.reckoning.proofs.RegisterLaws.{months-in-register}
 use Rattle.reckoning.proofs.ScopeInRegister.{year-in-register}
@@ -80,7 +80,7 @@ module _ (system year : ℕ) (has : HasRule system) where
     unfolding extinguishedFrom
     accepted = ap (λ v. v .refusal) (sym days-answered)
 
-    counted : (extinguishedDaysOf system year) .count ≡ firstMonth c (n + 1) - firstMonth c n
+    pub counted : (extinguishedDaysOf system year) .count ≡ firstMonth c (n + 1) - firstMonth c n
     unfolding extinguishedFrom
     counted = ap (λ v. v .count) (sym days-answered)
 
@@ -158,6 +158,26 @@ thirteen-most system year =
     (λ none refusal. absurd (none (system-in-scope system has)))
     (λ s none refusal. omega (arith, ap (λ v. v .count) (days-refused system year has YEAR refusal (omega arith))))
     (λ s. omega (arith, counted system year has s, in-register system year has s .count-most)))
+
+-- After the last are unused places, and in a refused answer nothing else.
+pub past-the-last : (system year i : ℕ) → (extinguishedDaysOf system year) .count ≤ i
+    → getD ((extinguishedDaysOf system year) .moons) i unused ≡ unused
+unfolding extinguishedFrom
+past-the-last system year i h =
+    by-inside 1 lastRule system
+    (λ e none. of-blank (no-rule system year e))
+    (λ e has.
+    by-scope system year
+    (λ none refusal. absurd (none (system-in-scope system has)))
+    (λ s none refusal. of-blank (days-refused system year has YEAR refusal (omega arith)))
+    (λ s.
+    ap (λ v. getD (v .moons) i unused) (sym (days-answered system year has s))
+    ∙ filled-past _ noMoons unused _ i (omega (arith, counted system year has s))
+    ∙ replicate-reads unused 13 i))
+  where
+    of-blank : {number : ℕ} → extinguishedDaysOf system year ≡ noDays number
+        → getD ((extinguishedDaysOf system year) .moons) i unused ≡ unused
+    of-blank is = ap (λ v. getD (v .moons) i unused) is ∙ replicate-reads unused 13 i
 
 -- Where any is listed, the year was not refused.
 listed-accepted : (system year i : ℕ) → i < (extinguishedDaysOf system year) .count → (extinguishedDaysOf system year) .refusal ≡ 0

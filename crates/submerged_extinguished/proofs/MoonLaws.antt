@@ -1,12 +1,12 @@
 -- From one new moon to the next, and a month's new moon by its head.
 use Prim.Native.Nat.{ℕ, _+_, _*_, _-_, _%_, _<_, _≤_}
-use mathlib.Core.Path.{_≡_, sym, ap, _∙_}
+use mathlib.Core.Path.{_≡_, sym, ap}
 use mathlib.Core.Logic.{_↔_}
 use native.Mathlib.Nat.{div-add-mod', mod-lt, div-eq-of-lt-le}
 use native.Mathlib.Omega.{arith}
 use borrow.Author.Tests.{lt-ltb, le-ltb}
 use Rattle.calendar.specs.declared.data.Constants.{Constants}
-use Rattle.calendar.specs.Systems.{registerDay, countDay}
+use Rattle.calendar.specs.Systems.{registerDay}
 use Rattle.calendar.specs.Month.{newMoon, newMoonRemainder, monthHead, monthLength}
 use Rattle.calendar.specs.Consistent.{Consistent}
 use Rattle.calendar.specs.ClosedForms.{monthOfDay}
@@ -15,7 +15,6 @@ use Rattle.reckoning.specs.WordBounds.{InRegister}
 use Rattle.submerged_extinguished.specs.declared.rules.Rule.{Rule}
 use Rattle.submerged_extinguished.specs.RuleHolds.{RuleHolds}
 use Rattle.submerged_extinguished.specs.Moons.{moonAt, moonAfter}
-use Rattle.submerged_extinguished.specs.WordBounds.{HeadFits}
 
 module _ (c : Constants) (consistent : Consistent c) where
   -- A new moon is its day's parts and the remainder.

@@ -1,14 +1,12 @@
 -- The code's numbers fit, and what it returns by its tests.
-use Prim.Native.Nat.{ℕ, _+_, _*_, _-_, _/_, _≤_, _<_}
+use Prim.Native.Nat.{ℕ, _*_, _-_, _/_, _≤_, _<_}
 use mathlib.Core.Path.{_≡_, sym, ap, subst, _∙_}
-use native.Mathlib.Nat.{mul-le-mul-right}
 use native.Mathlib.Omega.{arith}
 use borrow.Author.Tests.{lt-ltb, le-ltb}
 use mir.Syntax.{w8, w64}
 use mir.Val.{Fits}
 use Rattle.calendar.specs.declared.data.Constants.{Constants}
 use Rattle.calendar.specs.Systems.{constantsOf}
-use Rattle.submerged_extinguished.specs.declared.data.Distance.{Distance}
 use Rattle.submerged_extinguished.specs.declared.data.Distance.the-variants.{Days, None}
 use Rattle.submerged_extinguished.specs.declared.rules.Rule.{Rule}
 use Rattle.submerged_extinguished.specs.Rules.{HasRule, ruleOf}

@@ -1,6 +1,6 @@
 -- Bounds of machine words, under which the code's numbers fit. Each system that has a rule keeps them (see `rule-fits`),
 -- and so do the heads and the new moons of years in scope.
-use Prim.Native.Nat.{ℕ, _+_, _*_, _^_, _≤_, _<_}
+use Prim.Native.Nat.{ℕ, _*_, _^_, _≤_, _<_}
 use mathlib.Core.Path.{_≡_}
 use Rattle.calendar.specs.declared.data.Constants.{Constants}
 use Rattle.calendar.specs.Systems.{registerDay, countDay}

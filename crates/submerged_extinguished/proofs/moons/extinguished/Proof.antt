@@ -1,6 +1,5 @@
 use mathlib.Core.Path.{ap}
 use Rattle.reckoning.specs.Requests.{asRegisterDay}
-use Rattle.submerged_extinguished.specs.declared.data.Extinguished.{Extinguished}
 use borrow.Author.Needs.{needs}
 use Rattle.submerged_extinguished.proofs.moons.extinguished.Statement.{statement}
 use Rattle.submerged_extinguished.proofs.moons.extinguished.Tie as tie

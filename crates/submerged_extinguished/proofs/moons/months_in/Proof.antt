@@ -1,5 +1,4 @@
 use borrow.Author.Tests.{lt-ltb, le-ltb}
-use borrow.Author.Needs.{needs}
 use Rattle.submerged_extinguished.proofs.moons.months_in.Statement.{statement}
 use Rattle.submerged_extinguished.proofs.moons.months_in.Tie as tie
 
