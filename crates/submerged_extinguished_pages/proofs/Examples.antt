@@ -1,4 +1,4 @@
--- Lines, computed: the first of each page, of a distance, of none, and of a distance of no days.
+-- Lines, computed: the first of each page, of a distance, of none, of a distance of no days, and of refusals.
 use Prim.Native.Nat.{ℕ}
 use mathlib.Core.Path.{_≡_, refl}
 use mathlib.Core.List.{List, [], _∷_, _++_}
@@ -7,8 +7,9 @@ use Rattle.reckoning.specs.Filled.{filled}
 use Rattle.reckoning.specs.Requests.{stepOf}
 use Rattle.submerged_extinguished.specs.Answers.{submergedBy, submergedIn, extinguishedBy, extinguishedFrom, extinguishedDaysOf}
 use Rattle.text.specs.Decimal.{decimal}
-use Rattle.text.specs.Piece.{word, field, year, title, numbered, lastField}
-use Rattle.submerged_extinguished_pages.specs.DistancePages.{lineEnd, distanceLine, submergedWord, qiLine, extinguishedWord, moonAt}
+use Rattle.text.specs.Piece.{word, field, fields, year, title, numbered, lastField, textsUpTo}
+use Rattle.submerged_extinguished_pages.specs.DistancePages.{lineEnd, distanceLine, pageWith, submergedWord, qiLine, qiLines, submergedPage}
+use Rattle.submerged_extinguished_pages.specs.DistancePages.{extinguishedWord, moonAt, extinguishedPage}
 
 -- "submerged G 1094"
 abbrev submerged-title : List ℕ
@@ -41,3 +42,17 @@ submerged-lines = refl
 pub extinguished-lines : title extinguishedWord 1 1094 ++ (moonAt (extinguishedDaysOf 1 1094) 1 ++ moonAt (extinguishedDaysOf 1 1101) 8) ≡ extinguished-title ++ (moon-line ++ nought)
 unfolding extinguishedDaysOf extinguishedFrom extinguishedBy yearRefusal filled decimal word field year title numbered lastField lineEnd distanceLine
 extinguished-lines = refl
+
+-- "refused 4" and "refused 5"
+abbrev refused-lines : List ℕ
+refused-lines =
+    114 ∷ 101 ∷ 102 ∷ 117 ∷ 115 ∷ 101 ∷ 100 ∷ 32 ∷ 52 ∷ 10 ∷ 114 ∷ 101 ∷ 102 ∷ 117 ∷ 115 ∷ 101 ∷ 100 ∷ 32 ∷ 53 ∷ 10 ∷ []
+
+pub refusals-told : submergedPage 3 1094 ++ extinguishedPage 1 3001 ≡ refused-lines
+unfolding pageWith submergedIn extinguishedDaysOf yearRefusal stepOf stepRefusal decimal word field fields
+refusals-told = refl
+
+-- The last of a page's lines is that of qi 24.
+pub up-to-24 : (system year : ℕ) → qiLines system year ≡ textsUpTo (qiLine system year) 24 ++ qiLine system year 24
+unfolding qiLines textsUpTo
+up-to-24 system year = refl
