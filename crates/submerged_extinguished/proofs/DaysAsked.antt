@@ -7,12 +7,10 @@ use native.Mathlib.Omega.{arith}
 use borrow.Author.Tests.{lt-ltb, le-ltb}
 use Rattle.calendar.specs.declared.data.Constants.{Constants}
 use Rattle.calendar.specs.Systems.{constantsOf, yearsElapsed, registerDay, countDay}
-use Rattle.calendar.specs.Month.{monthHead}
 use Rattle.calendar.specs.Consistent.{Consistent}
 use Rattle.calendar.specs.ClosedForms.{monthOfDay, firstMonth, headOfYear}
 use Rattle.calendar.proofs.EachSystem.{consistent}
 use Rattle.calendar.proofs.Laws.{year-months, days-of-twelve, days-of-thirteen}
-use Rattle.calendar.proofs.Reckoned.{reckoned, month-from, month-before}
 use Rattle.calendar.proofs.Spans.{span}
 use Rattle.reckoning.specs.declared.data.Days.{Days}
 use Rattle.reckoning.specs.ComputedRefusals.{outside, yearRefusal}
@@ -22,6 +20,7 @@ use Rattle.reckoning.specs.Requests.{daysIn, daysOf}
 use Rattle.reckoning.specs.Scope.{InScope}
 use Rattle.reckoning.specs.WordBounds.{InRegister, YearInRegister, MonthsInRegister}
 use Rattle.reckoning.proofs.AnswerUnless.{by-answer}
+use Rattle.reckoning.proofs.HeadLaws.{month-of-head, is-its-months-head, count-day, head-of}
 use Rattle.reckoning.proofs.RegisterLaws.{first-head, next-head, months-in-register}
 use Rattle.reckoning.proofs.ScopeInRegister.{year-in-register}
 use Rattle.submerged_extinguished.specs.declared.data.ExtinguishedDays.{ExtinguishedDays}
@@ -29,7 +28,7 @@ use Rattle.submerged_extinguished.specs.Rules.{lastRule, HasRule, ruleOf
 use Rattle.submerged_extinguished.specs.Answers.{extinguishedFrom, noDays, extinguishedDaysOf}
 use Rattle.submerged_extinguished.specs.Moons.{monthsIn}
 use Rattle.submerged_extinguished.specs.WordBounds.{HeadFits}
-use Rattle.submerged_extinguished.proofs.SubmergedEnds.{rule-tested}
+use Rattle.submerged_extinguished.proofs.RuleScope.{rule-tested}
 use Rattle.submerged_extinguished.proofs.ExtinguishedEnds.{no-rule, days-refused, days-answered}
 
 -- Year n within the register: its head is that of its first month, and its months are told by its days.
@@ -41,17 +40,10 @@ module _ (c : Constants) (n : ℕ) (r : YearInRegister c n) where
   head = registerDay c (headOfYear c n)
 
   day-back : countDay c head ≡ headOfYear c n
-  day-back = omega (arith, first-head c n r)
+  day-back = count-day (head-of r) refl
 
-  first-back : monthOfDay c (headOfYear c n) ≡ firstMonth c n
-  first-back =
-      let d = headOfYear c n in
-      let from = month-from c ok (firstMonth c n) d (omega arith) in
-      let before = month-before c ok (firstMonth c n + 1) d (omega (arith, (reckoned c ok) .month-least (firstMonth c n))) in
-      omega arith
-
-  month-of-head : monthOfDay c (countDay c head) ≡ firstMonth c n
-  month-of-head = ap (monthOfDay c) day-back ∙ first-back
+  month-of-register-head : monthOfDay c (countDay c head) ≡ firstMonth c n
+  month-of-register-head = ap (monthOfDay c) day-back ∙ month-of-head c ok n
 
   head-fits : HeadFits c head
   head-fits =
@@ -59,7 +51,7 @@ module _ (c : Constants) (n : ℕ) (r : YearInRegister c n) where
         constants-fit = r .constants-fit;
         in-register = subst (InRegister c) (sym day-back) (first-head c n r);
         back = ap (registerDay c) day-back;
-        is-head = ap (monthHead c) month-of-head ∙ sym day-back;
+        is-head = is-its-months-head n ok day-back;
       }
 
   months-by-days : monthsIn (registerDay c (headOfYear c (n + 1)) - head) ≡ firstMonth c (n + 1) - firstMonth c n
@@ -114,26 +106,32 @@ module _ (system year : ℕ) {days : Days} (asked : days ≡ daysOf system year)
       in-scope-days : {P : Type 0} → (InScope system year → days ≡ daysIn c (yearsElapsed c year) → P) → P
       in-scope-days found = by-days (λ number e positive carried. absurd (omega arith)) found
 
+      -- Its first month and how many it has are those of the year.
+      months-are : (s : InScope system year) → days ≡ daysIn c (yearsElapsed c year)
+          → (first ≡ firstMonth c (yearsElapsed c year))
+          × (count ≡ firstMonth c (yearsElapsed c year + 1) - firstMonth c (yearsElapsed c year))
+      months-are s given =
+          let n = yearsElapsed c year in
+          let r = year-in-register system year (s .year-inside) in (
+            ap (λ v. monthOfDay c (countDay c (v .head .0))) given ∙ month-of-register-head c n r,
+            counted ∙ ap (λ v. monthsIn (v .length)) given ∙ months-by-days c n r,
+          )
+
       pub months-fit : HasRule system × HeadFits c (days .head .0) × MonthsInRegister c first count
       months-fit =
           in-scope-days
           (λ s given.
           let n = yearsElapsed c year in
           let r = year-in-register system year (s .year-inside) in
-          let head = ap (λ v. v .head .0) given in
-          let months = counted ∙ ap (λ v. monthsIn (v .length)) given ∙ months-by-days c n r in
-          let month = ap (λ h. monthOfDay c (countDay c h)) head ∙ month-of-head c n r in (
+          let are = months-are s given in (
             has,
-            subst (HeadFits c) (sym head) (head-fits c n r),
-            subst₂ (MonthsInRegister c) (sym month) (sym months) (months-in-register c n r),
+            subst (HeadFits c) (sym (ap (λ v. v .head .0) given)) (head-fits c n r),
+            subst₂ (MonthsInRegister c) (sym (are .0)) (sym (are .1)) (months-in-register c n r),
           ))
 
       pub returns-days : {v : ExtinguishedDays} → v ≡ extinguishedFrom c (ruleOf system) first count → v ≡ extinguishedDaysOf system year
       returns-days is =
           in-scope-days
           (λ s given.
-          let n = yearsElapsed c year in
-          let r = year-in-register system year (s .year-inside) in
-          let months = counted ∙ ap (λ v. monthsIn (v .length)) given ∙ months-by-days c n r in
-          let month = ap (λ v. monthOfDay c (countDay c (v .head .0))) given ∙ month-of-head c n r in
-          is ∙ ap₂ (extinguishedFrom c (ruleOf system)) month months ∙ days-answered system year has s)
+          let are = months-are s given in
+          is ∙ ap₂ (extinguishedFrom c (ruleOf system)) (are .0) (are .1) ∙ days-answered system year has s)

@@ -39,14 +39,6 @@ rule-fits =
     (record { holds = guantian-holds; day-small = omega arith; minuend-small = omega arith; lunar-small = omega arith; shortfall-small = omega arith })
     (record { holds = jiyuan-holds; day-small = omega arith; minuend-small = omega arith; lunar-small = omega arith; shortfall-small = omega arith })
 
--- The limit and what a qi's step has beyond fifteen days make a day: exactly in Jiyuan, and in Guantian with 12 small
--- units more, since its limit is in whole parts.
-pub guantian-limit : guantianRule .limit + (step guantian 24 (guantian .units) - 15 * (12_030 * 36)) ≡ 12_030 * 36 + 12
-guantian-limit = refl
-
-pub jiyuan-limit : jiyuanRule .limit + (step jiyuan 24 (jiyuan .units) - 15 * (7290 * 4)) ≡ 7290 * 4
-jiyuan-limit = refl
-
 -- Each system's own words, for every remainder that there can be.
 pub guantian-words : (parts units : ℕ) → parts < 12_030 → units < 36 → (d : Distance)
     → SubmergedSays guantian guantianRule (exactRemainder guantian parts units) d ↔ GuantianSays parts units d
@@ -67,3 +59,16 @@ jiyuan-words parts units p q (Days days) = (
       (omega arith, record { difference = left; is = omega arith; distance = (omega arith, omega arith) }),
 )
 jiyuan-words parts units p q None = (λ says. omega arith, λ says. omega arith)
+
+-- The minuend is to the multiplier as the year to 360 days.
+pub by-the-year : (system : ℕ) → HasRule system
+    → ruleOf system .multiplier * constantsOf system .year ≡ 360 * ruleOf system .minuend
+by-the-year = each-rule (λ c rule. rule .multiplier * c .year ≡ 360 * rule .minuend) refl refl
+
+-- The limit and what a qi's step has beyond fifteen days make a day: exactly in Jiyuan, and in Guantian with 12 small
+-- units more, since its limit is in whole parts.
+pub guantian-limit : guantianRule .limit + (step guantian 24 (guantian .units) - 15 * (12_030 * 36)) ≡ 12_030 * 36 + 12
+guantian-limit = refl
+
+pub jiyuan-limit : jiyuanRule .limit + (step jiyuan 24 (jiyuan .units) - 15 * (7290 * 4)) ≡ 7290 * 4
+jiyuan-limit = refl

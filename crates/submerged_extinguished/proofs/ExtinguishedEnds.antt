@@ -14,11 +14,11 @@ use Rattle.calendar.proofs.Reckoned.{reckoned}
 use Rattle.calendar.proofs.Spans.{span, span-first, span-next}
 use Rattle.reckoning.specs.ComputedRefusals.{outside, yearRefusal}
 use Rattle.reckoning.specs.RefusalNumbers.{SYSTEM, YEAR, DAY}
-use Rattle.reckoning.specs.Scope.{InScope}
+use Rattle.reckoning.specs.Scope.{YearInScope, InScope}
 use Rattle.reckoning.specs.WordBounds.{MonthsInRegister}
 use Rattle.reckoning.proofs.AnswerUnless.{refused-year, answered-year}
 use Rattle.reckoning.proofs.FilledLaws.{filled-below, filled-past, replicate-reads}
-use Rattle.reckoning.proofs.RefusalCases.{by-inside, by-scope, inside, inside-of}
+use Rattle.reckoning.proofs.RefusalCases.{by-inside, inside, inside-of}
 use Rattle.reckoning.proofs.RegisterLaws.{months-in-register}
 use Rattle.reckoning.proofs.ScopeInRegister.{year-in-register}
 use Rattle.submerged_extinguished.specs.declared.data.Answer.{Answer}
@@ -29,7 +29,8 @@ use Rattle.submerged_extinguished.specs.Answers.{noDays, extinguishedDay
 use Rattle.submerged_extinguished.specs.Outcomes as O
 use Rattle.submerged_extinguished.proofs.RuleLaws.{extinguished-says}
 use Rattle.submerged_extinguished.proofs.EachRule.{rule-holds}
-use Rattle.submerged_extinguished.proofs.SubmergedEnds.{blank, system-in-scope}
+use Rattle.submerged_extinguished.proofs.RuleScope.{by-rule}
+use Rattle.submerged_extinguished.proofs.SubmergedEnds.{blank}
 
 -- The answer at a place, by its year's extinguished days.
 module _ (system year place : ℕ) where
@@ -133,62 +134,61 @@ module _ (system year : ℕ) (has : HasRule system) where
           O.ExtinguishedOutcome.found
           (subst (O.ExtinguishedFound system year place) (sym is) (found (into .at-least) (into .at-most))))
 
+-- A year's extinguished days are refused, or those of a year in scope.
+by-year : {P : Type 0} (system year : ℕ)
+    → ((HasRule system → ⊥) → extinguishedDaysOf system year ≡ noDays SYSTEM → P)
+    → (HasRule system → (YearInScope year → ⊥) → extinguishedDaysOf system year ≡ noDays YEAR → P)
+    → (HasRule system → InScope system year → P)
+    → P
+by-year system year no-rule-listed no-year-listed scope =
+    by-rule system year
+    (λ none e. no-rule-listed none (no-rule system year e))
+    (λ has none refusal. no-year-listed has none (days-refused system year has YEAR refusal (omega arith)))
+    scope
+
 pub extinguished-outcome : (system year place : ℕ) → O.ExtinguishedOutcome system year place (extinguishedOf system year place)
 extinguished-outcome system year place =
-    by-inside 1 lastRule system
-    (λ e none.
+    by-year system year
+    (λ none is.
     O.ExtinguishedOutcome.system-refused none
-    (blank (of-refused system year place SYSTEM (ap (λ v. v .refusal) (no-rule system year e)) (λ z. omega arith))))
-    (λ e has.
-    by-scope system year
-    (λ none refusal. absurd (none (system-in-scope system has)))
-    (λ s none refusal.
-    let none-listed = days-refused system year has YEAR refusal (omega arith) in
+    (blank (of-refused system year place SYSTEM (ap (λ v. v .refusal) is) (λ z. omega arith))))
+    (λ has none is.
     O.ExtinguishedOutcome.year-refused has none
-    (blank (of-refused system year place YEAR (ap (λ v. v .refusal) none-listed) (λ z. omega arith))))
-    (λ s. place-outcome system year has s place))
+    (blank (of-refused system year place YEAR (ap (λ v. v .refusal) is) (λ z. omega arith))))
+    (λ has s. place-outcome system year has s place)
 
 -- There are thirteen at most; one that is refused has none.
 pub thirteen-most : (system year : ℕ) → (extinguishedDaysOf system year) .count ≤ 13
 thirteen-most system year =
-    by-inside 1 lastRule system
-    (λ e none. omega (arith, ap (λ v. v .count) (no-rule system year e)))
-    (λ e has.
-    by-scope system year
-    (λ none refusal. absurd (none (system-in-scope system has)))
-    (λ s none refusal. omega (arith, ap (λ v. v .count) (days-refused system year has YEAR refusal (omega arith))))
-    (λ s. omega (arith, counted system year has s, in-register system year has s .count-most)))
+    by-year system year
+    (λ none is. omega (arith, ap (λ v. v .count) is))
+    (λ has none is. omega (arith, ap (λ v. v .count) is))
+    (λ has s. omega (arith, counted system year has s, in-register system year has s .count-most))
 
 -- After the last are unused places, and in a refused answer nothing else.
 pub past-the-last : (system year i : ℕ) → (extinguishedDaysOf system year) .count ≤ i
     → getD ((extinguishedDaysOf system year) .moons) i unused ≡ unused
 unfolding extinguishedFrom
 past-the-last system year i h =
-    by-inside 1 lastRule system
-    (λ e none. of-blank (no-rule system year e))
-    (λ e has.
-    by-scope system year
-    (λ none refusal. absurd (none (system-in-scope system has)))
-    (λ s none refusal. of-blank (days-refused system year has YEAR refusal (omega arith)))
-    (λ s.
+    by-year system year
+    (λ none is. of-blank SYSTEM is)
+    (λ has none is. of-blank YEAR is)
+    (λ has s.
     ap (λ v. getD (v .moons) i unused) (sym (days-answered system year has s))
     ∙ filled-past _ noMoons unused _ i (omega (arith, counted system year has s))
-    ∙ replicate-reads unused 13 i))
+    ∙ replicate-reads unused 13 i)
   where
-    of-blank : {number : ℕ} → extinguishedDaysOf system year ≡ noDays number
+    of-blank : (number : ℕ) → extinguishedDaysOf system year ≡ noDays number
         → getD ((extinguishedDaysOf system year) .moons) i unused ≡ unused
-    of-blank is = ap (λ v. getD (v .moons) i unused) is ∙ replicate-reads unused 13 i
+    of-blank number is = ap (λ v. getD (v .moons) i unused) is ∙ replicate-reads unused 13 i
 
 -- Where any is listed, the year was not refused.
 listed-accepted : (system year i : ℕ) → i < (extinguishedDaysOf system year) .count → (extinguishedDaysOf system year) .refusal ≡ 0
 listed-accepted system year i h =
-    by-inside 1 lastRule system
-    (λ e none. absurd (omega (arith, ap (λ v. v .count) (no-rule system year e))))
-    (λ e has.
-    by-scope system year
-    (λ none refusal. absurd (none (system-in-scope system has)))
-    (λ s none refusal. absurd (omega (arith, ap (λ v. v .count) (days-refused system year has YEAR refusal (omega arith)))))
-    (λ s. accepted system year has s))
+    by-year system year
+    (λ none is. absurd (omega (arith, ap (λ v. v .count) is)))
+    (λ has none is. absurd (omega (arith, ap (λ v. v .count) is)))
+    (λ has s. accepted system year has s)
 
 -- Each of a year's is the answer by itself.
 pub one-by-one : (system year i : ℕ) → i < (extinguishedDaysOf system year) .count

@@ -9,6 +9,8 @@ pub mod MoonLaws
 pub mod MoonList
 -- The code's numbers fit.
 pub mod WordFits
+-- A system that has a rule, and a year in scope.
+pub mod RuleScope
 -- How the request for a submerged day ends.
 pub mod SubmergedEnds
 -- How the request for an extinguished day ends.

@@ -2,7 +2,7 @@
 use Prim.Native.Nat.{ℕ, _+_, _*_, _-_, _%_, _<_, _≤_}
 use mathlib.Core.Path.{_≡_, sym, ap}
 use mathlib.Core.Logic.{_↔_}
-use native.Mathlib.Nat.{div-add-mod', mod-lt, div-eq-of-lt-le}
+use native.Mathlib.Nat.{div-add-mod', div-eq-of-lt-le}
 use native.Mathlib.Omega.{arith}
 use borrow.Author.Tests.{lt-ltb, le-ltb}
 use Rattle.calendar.specs.declared.data.Constants.{Constants}
@@ -10,6 +10,7 @@ use Rattle.calendar.specs.Systems.{registerDay}
 use Rattle.calendar.specs.Month.{newMoon, newMoonRemainder, monthHead, monthLength}
 use Rattle.calendar.specs.Consistent.{Consistent}
 use Rattle.calendar.specs.ClosedForms.{monthOfDay}
+use Rattle.calendar.proofs.HeldQi.{moon-told, remainder-below}
 use Rattle.calendar.proofs.Rising.{by-order}
 use Rattle.reckoning.specs.WordBounds.{InRegister}
 use Rattle.submerged_extinguished.specs.declared.rules.Rule.{Rule}
@@ -17,13 +18,6 @@ use Rattle.submerged_extinguished.specs.RuleHolds.{RuleHolds}
 use Rattle.submerged_extinguished.specs.Moons.{moonAt, moonAfter}
 
 module _ (c : Constants) (consistent : Consistent c) where
-  -- A new moon is its day's parts and the remainder.
-  whole : (k : ℕ) → newMoon c k ≡ monthHead c k * c .lunar + newMoonRemainder c k
-  whole k = omega (arith, div-add-mod' (newMoon c k) (c .lunar))
-
-  pub remainder-small : (k : ℕ) → newMoonRemainder c k < c .lunar
-  remainder-small k = mod-lt (newMoon c k) (consistent .lunar-some)
-
   module _ (rule : Rule) (ok : RuleHolds c rule) (k : ℕ) where
     abbrev r : ℕ
     r = newMoonRemainder c k
@@ -35,19 +29,19 @@ module _ (c : Constants) (consistent : Consistent c) where
         → (monthHead c (k + 1) ≡ monthHead c k + 29) × (newMoonRemainder c (k + 1) ≡ r + c .lunar - rule .shortfall)
     next-short l =
         let all : newMoon c (k + 1) ≡ later 29 + (r + c .lunar - rule .shortfall) =
-        omega (arith, whole k, ok .month-and-shortfall, consistent .months-least)
+        omega (arith, moon-told c consistent k, ok .month-and-shortfall, consistent .months-least)
         in
         let head : monthHead c (k + 1) ≡ monthHead c k + 29 = div-eq-of-lt-le (c .lunar) (omega arith) (omega arith) in
-        (head, omega (arith, whole (k + 1), ap (λ x. x * c .lunar) head))
+        (head, omega (arith, moon-told c consistent (k + 1), ap (λ x. x * c .lunar) head))
 
     pub next-long : rule .shortfall ≤ r
         → (monthHead c (k + 1) ≡ monthHead c k + 30) × (newMoonRemainder c (k + 1) ≡ r - rule .shortfall)
     next-long l =
-        let all : newMoon c (k + 1) ≡ later 30 + (r - rule .shortfall) = omega (arith, whole k, ok .month-and-shortfall) in
+        let all : newMoon c (k + 1) ≡ later 30 + (r - rule .shortfall) = omega (arith, moon-told c consistent k, ok .month-and-shortfall) in
         let head : monthHead c (k + 1) ≡ monthHead c k + 30 =
-        div-eq-of-lt-le (c .lunar) (omega arith) (omega (arith, remainder-small k))
+        div-eq-of-lt-le (c .lunar) (omega arith) (omega (arith, remainder-below c consistent k))
         in
-        (head, omega (arith, whole (k + 1), ap (λ x. x * c .lunar) head))
+        (head, omega (arith, moon-told c consistent (k + 1), ap (λ x. x * c .lunar) head))
 
     -- A new moon has an extinguished day exactly when its month has 29 days.
     pub in-short-months : (r < rule .shortfall) ↔ (monthLength c k ≡ 29)
@@ -81,6 +75,6 @@ module _ (c : Constants) (consistent : Consistent c) where
           arith,
           consistent .lunar-some,
           div-add-mod' ((d + 1) * c .lunar - 1) (c .month),
-          whole (monthOfDay c d),
+          moon-told c consistent (monthOfDay c d),
           ap (λ x. x * c .lunar) is-head,
         )

@@ -12,6 +12,7 @@ use Rattle.calendar.specs.declared.data.Constants.{Constants}
 use Rattle.calendar.specs.Systems.{registerDay, countDay}
 use Rattle.calendar.specs.Month.{newMoonRemainder, monthHead}
 use Rattle.calendar.specs.ClosedForms.{monthOfDay}
+use Rattle.calendar.proofs.HeldQi.{remainder-below}
 use Rattle.reckoning.specs.Filled.{filled}
 use Rattle.reckoning.specs.WordBounds.{MonthsInRegister}
 use Rattle.reckoning.proofs.FilledLaws.{filled-none, filled-more}
@@ -22,7 +23,7 @@ use Rattle.submerged_extinguished.specs.declared.rules.Rule.{Rule}
 use Rattle.submerged_extinguished.specs.Answers.{extinguishedAt, noMoons, extinguishedFrom}
 use Rattle.submerged_extinguished.specs.Moons.{moonAt, moonAfter, extinguishedOn}
 use Rattle.submerged_extinguished.specs.WordBounds.{RuleFits, HeadFits, MoonFits}
-use Rattle.submerged_extinguished.proofs.MoonLaws.{remainder-small, moon-after, left-of-day}
+use Rattle.submerged_extinguished.proofs.MoonLaws.{moon-after, left-of-day}
 
 -- The first new moon, by the year's head r: the code's numbers fit.
 module _ {c : Constants} {r : ℕ} (f : HeadFits c r) where
@@ -84,7 +85,7 @@ module _ {c : Constants} {rule : Rule} {count : ℕ} {start : Moon} where
         record {
           rule-fits = f;
           day-small = omega (arith, there .head i (omega arith));
-          remainder-below = omega (arith, remainder-small c ok (k + i));
+          remainder-below = omega (arith, remainder-below c ok (k + i));
         }
 
     pub listing-more : {one : Extinguished} {next : Moon} → i < count → one ≡ extinguishedOn rule moon → next ≡ moonAfter c rule moon

@@ -10,7 +10,7 @@ use Rattle.calendar.proofs.Rising.{by-order}
 use Rattle.submerged_extinguished.specs.declared.data.Distance.{Distance}
 use Rattle.submerged_extinguished.specs.declared.data.Distance.the-variants.{Days, None}
 use Rattle.submerged_extinguished.specs.declared.rules.Rule.{Rule}
-use Rattle.submerged_extinguished.specs.Distances.{CutDown, SubmergedAfter, SubmergedSays, ExtinguishedSays}
+use Rattle.submerged_extinguished.specs.Distances.{CutDown, SubmergedDistance, SubmergedSays, ExtinguishedSays}
 use Rattle.submerged_extinguished.specs.RuleHolds.{RuleHolds}
 use Rattle.submerged_extinguished.specs.Answers.{exactRemainder, submergedBy, extinguishedBy}
 
@@ -71,7 +71,7 @@ module _ (c : Constants) (rule : Rule) (ok : RuleHolds c rule) where
         simp (le-ltb r (rule .limit) l)
         (l, record { difference = difference; is = difference-is; distance = cut-down difference divisor divisor-some }))
 
-    after-is : (d : ℕ) → SubmergedAfter c rule r d → d ≡ days
+    after-is : (d : ℕ) → SubmergedDistance c rule r d → d ≡ days
     after-is d after =
         let same : after .difference ≡ difference = omega (arith, after .is, difference-is) in
         cut-down-is (after .difference) divisor divisor-some d (after .distance) ∙ ap (λ x. x / divisor) same

@@ -1,5 +1,5 @@
 -- How the request for a submerged day ends, in the paper's words.
-use Prim.Native.Nat.{ℕ, _≤_, _<_}
+use Prim.Native.Nat.{ℕ, _*_, _≤_, _<_}
 use mathlib.Core.Path.{_≡_, refl, subst, sym, ap, _∙_}
 use mathlib.Core.Bool.{Bool, true, false}
 use native.Mathlib.Omega.{arith}
@@ -11,8 +11,8 @@ use Rattle.reckoning.specs.declared.data.Moment.{Moment}
 use Rattle.reckoning.specs.ComputedRefusals.{outside, qiRefusal}
 use Rattle.reckoning.specs.RefusalNumbers.{SYSTEM, YEAR, STEP}
 use Rattle.reckoning.specs.Requests.{qiOf}
-use Rattle.reckoning.specs.Scope.{SystemInScope, InScope}
-use Rattle.reckoning.proofs.RefusalCases.{by-inside, by-scope, inside, inside-of, step-unseen, step-refused, accepted-step}
+use Rattle.reckoning.specs.Scope.{InScope}
+use Rattle.reckoning.proofs.RefusalCases.{inside, step-unseen, step-refused, accepted-step}
 use Rattle.reckoning.proofs.RefusedRequests.{qi-blank}
 use Rattle.reckoning.proofs.AnswersRight.{qi-holds}
 use Rattle.submerged_extinguished.specs.declared.data.Answer.{Answer}
@@ -24,6 +24,7 @@ use Rattle.submerged_extinguished.specs.Answers.{submergedIn, submergedO
 use Rattle.submerged_extinguished.specs.Outcomes as O
 use Rattle.submerged_extinguished.proofs.RuleLaws.{remainder-below, submerged-says}
 use Rattle.submerged_extinguished.proofs.EachRule.{rule-holds}
+use Rattle.submerged_extinguished.proofs.RuleScope.{rule-tested, by-rule}
 
 abbrev answer-by : ℕ → Moment → Answer
 answer-by system qi = answerAt (qi .day) (submergedAfter system (qi .parts) (qi .units))
@@ -44,18 +45,15 @@ module _ (system : ℕ) (has : HasRule system) (qi : Moment) where
   unfolding submergedIn
   answered-as none = simp (inside 1 lastRule system has, eq-eqb (qi .refusal) 0 none)
 
-pub system-in-scope : (system : ℕ) → HasRule system → SystemInScope system
-system-in-scope system has = record { at-least = has .at-least; at-most = omega (arith, has .at-most) }
-
-pub rule-tested : (system : ℕ) {b : Bool} → b ≡ outside 1 lastRule system → b ≡ false → HasRule system
-rule-tested system test into = inside-of 1 lastRule system (sym test ∙ into)
-
 module _ (system year i : ℕ) (has : HasRule system) where
   abbrev c : Constants
   c = constantsOf system
 
   abbrev qi : Moment
   qi = qiOf system year i
+
+  abbrev r : ℕ
+  r = exactRemainder c (qi .parts) (qi .units)
 
   -- By the parts and small units that are answered for the qi, below their bounds.
   pub by-qi : InScope system year → i ≤ 24
@@ -64,14 +62,17 @@ module _ (system year i : ℕ) (has : HasRule system) where
       let is = qi-holds system year s i h in
       (answered-as system has qi (is .accepted), is .parts-below, is .units-below)
 
-  pub says-of-qi : InScope system year → i ≤ 24
-      → SubmergedSays c (ruleOf system) (exactRemainder c (qi .parts) (qi .units)) ((submergedOf system year i) .distance)
-  says-of-qi s h =
+  says-here : InScope system year → i ≤ 24
+      → (r < c .solar * c .units) × SubmergedSays c (ruleOf system) r (submergedAfter system (qi .parts) (qi .units))
+  says-here s h =
       let given = by-qi s h in
-      let r = exactRemainder c (qi .parts) (qi .units) in
       let below = remainder-below c (qi .parts) (qi .units) (given .1) (given .2) in
-      subst (SubmergedSays c (ruleOf system) r) (sym (ap (λ v. v .distance) (given .0)))
-      (submerged-says c (ruleOf system) (rule-holds system has) r below)
+      (below, submerged-says c (ruleOf system) (rule-holds system has) r below)
+
+  pub says-of-qi : InScope system year → i ≤ 24
+      → SubmergedSays c (ruleOf system) r ((submergedOf system year i) .distance)
+  says-of-qi s h =
+      subst (SubmergedSays c (ruleOf system) r) (sym (ap (λ v. v .distance) (by-qi s h .0))) (says-here s h .1)
 
   qi-refused : (number : ℕ) → qiRefusal system year i ≡ number → 0 < number → submergedOf system year i ≡ noAnswer number
   qi-refused number e some =
@@ -81,9 +82,8 @@ module _ (system year i : ℕ) (has : HasRule system) where
   qi-found : InScope system year → i ≤ 24 → O.SubmergedFound system year i (submergedOf system year i)
   qi-found s h =
       let is = qi-holds system year s i h in
-      let r = exactRemainder c (qi .parts) (qi .units) in
-      let below = remainder-below c (qi .parts) (qi .units) (is .parts-below) (is .units-below) in
-      subst (O.SubmergedFound system year i) (sym (answered-as system has qi (is .accepted)))
+      let here = says-here s h in
+      subst (O.SubmergedFound system year i) (sym (by-qi s h .0))
       (record {
         has-rule = has;
         year-inside = s .year-inside;
@@ -91,9 +91,9 @@ module _ (system year i : ℕ) (has : HasRule system) where
         not-refused = refl;
         day = is .day;
         remainder = r;
-        falls = record { moment = omega (arith, is .moment); below = below };
+        falls = record { moment = omega (arith, is .moment); below = here .0 };
         is-day = is .is-day;
-        says = submerged-says c (ruleOf system) (rule-holds system has) r below;
+        says = here .1;
       })
 
 no-rule-blank : (system : ℕ) (qi : Moment) → outside 1 lastRule system ≡ true → submergedIn system qi ≡ noAnswer SYSTEM
@@ -102,20 +102,17 @@ no-rule-blank system qi out = simp out
 
 pub submerged-outcome : (system year i : ℕ) → O.SubmergedOutcome system year i (submergedOf system year i)
 submerged-outcome system year i =
-    by-inside 1 lastRule system
-    (λ e none. O.SubmergedOutcome.system-refused none (blank (no-rule-blank system (qiOf system year i) e)))
-    (λ e has.
-    by-scope system year
-    (λ none refusal. absurd (none (system-in-scope system has)))
-    (λ s none refusal.
+    by-rule system year
+    (λ none e. O.SubmergedOutcome.system-refused none (blank (no-rule-blank system (qiOf system year i) e)))
+    (λ has none refusal.
     let unseen = step-unseen 24 system year i (λ z. omega arith) in
     O.SubmergedOutcome.year-refused has none (blank (qi-refused system year i has YEAR (sym unseen ∙ refusal) (omega arith))))
-    (λ s.
+    (λ has s.
     by-order 24 i
     (λ past.
     O.SubmergedOutcome.qi-refused has (s .year-inside) past
     (blank (qi-refused system year i has STEP (step-refused 24 system year i s past) (omega arith))))
-    (λ h. O.SubmergedOutcome.found (qi-found system year i has s h))))
+    (λ h. O.SubmergedOutcome.found (qi-found system year i has s h)))
 
 -- A qi that carries no refusal was not refused.
 not-refused : (system year i : ℕ) → (qiOf system year i) .refusal ≡ 0 → qiRefusal system year i ≡ 0

@@ -14,7 +14,7 @@ CutDown numerator denominator days = (days * denominator ≤ numerator) × (nume
 -- The distance of a submerged day from its qi's: the minuend less the multiplier times the remainder, by the divisor.
 -- The remainder is r small units, and so both sides of the quotient are in small units; the difference is said by a sum,
 -- since it would be cut at 0.
-pub record SubmergedAfter (c : Constants) (rule : Rule) (r days : ℕ) : Type 0 where
+pub record SubmergedDistance (c : Constants) (rule : Rule) (r days : ℕ) : Type 0 where
   pub difference : ℕ
   pub is : difference + rule .multiplier * r ≡ rule .minuend * c .units
   pub distance : CutDown difference (rule .divisor * c .units) days
@@ -22,7 +22,7 @@ pub record SubmergedAfter (c : Constants) (rule : Rule) (r days : ℕ) : Type 0 
 -- What each case of an answer stands for, of a qi with a remainder of r small units: it has a submerged day when the
 -- remainder is the limit or more.
 abbrev pub SubmergedSays : Constants → Rule → ℕ → Distance → Type 0
-SubmergedSays c rule r (Days days) = (rule .limit ≤ r) × SubmergedAfter c rule r days
+SubmergedSays c rule r (Days days) = (rule .limit ≤ r) × SubmergedDistance c rule r days
 SubmergedSays c rule r None = r < rule .limit
 
 -- And of a new moon with a remainder of r parts: it has an extinguished day when the remainder is below the shortfall;

@@ -7,9 +7,7 @@ use Rattle.submerged_extinguished.specs.declared.rules.Rule.{Rule}
 pub record RuleHolds (c : Constants) (rule : Rule) : Type 0 where
   pub units-some : 0 < c .units
   pub divisor-some : 0 < rule .divisor
-  -- the minuend is to the multiplier as the year to 360 days
-  pub by-year : rule .multiplier * c .year ≡ 360 * rule .minuend
-  -- and the divisor is what it has beyond them: a whole day's remainder would leave a distance of one day
+  -- the minuend is 360 days and the divisor, so multiplied: a whole day's remainder would leave a distance of one day
   pub beyond-360 : rule .minuend ≡ rule .multiplier * c .solar + rule .divisor
   -- the limit leaves a distance of less than seventeen days
   pub limit-near : rule .multiplier * (c .solar * c .units) < 16 * (rule .divisor * c .units) + rule .multiplier * rule .limit

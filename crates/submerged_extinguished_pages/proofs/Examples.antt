@@ -9,7 +9,7 @@ use Rattle.submerged_extinguished.specs.Answers.{submergedBy, submergedIn, exti
 use Rattle.text.specs.Decimal.{decimal}
 use Rattle.text.specs.Piece.{word, field, fields, year, title, numbered, lastField, textsUpTo}
 use Rattle.submerged_extinguished_pages.specs.DistancePages.{lineEnd, distanceLine, pageWith, submergedWord, qiLine, qiLines, submergedPage}
-use Rattle.submerged_extinguished_pages.specs.DistancePages.{extinguishedWord, moonAt, extinguishedPage}
+use Rattle.submerged_extinguished_pages.specs.DistancePages.{extinguishedWord, moonLineAt, extinguishedPage}
 
 -- "submerged G 1094"
 abbrev submerged-title : List ℕ
@@ -39,7 +39,7 @@ pub submerged-lines : title submergedWord 1 1094 ++ (qiLine 1 1094 1 ++ qiLine 1
 unfolding submergedIn submergedBy stepOf stepRefusal decimal word field year title numbered lastField lineEnd distanceLine
 submerged-lines = refl
 
-pub extinguished-lines : title extinguishedWord 1 1094 ++ (moonAt (extinguishedDaysOf 1 1094) 1 ++ moonAt (extinguishedDaysOf 1 1101) 8) ≡ extinguished-title ++ (moon-line ++ nought)
+pub extinguished-lines : title extinguishedWord 1 1094 ++ (moonLineAt (extinguishedDaysOf 1 1094) 1 ++ moonLineAt (extinguishedDaysOf 1 1101) 8) ≡ extinguished-title ++ (moon-line ++ nought)
 unfolding extinguishedDaysOf extinguishedFrom extinguishedBy yearRefusal filled decimal word field year title numbered lastField lineEnd distanceLine
 extinguished-lines = refl
 

@@ -13,7 +13,7 @@ use Rattle.text.specs.Put.{Put}
 use Rattle.text.specs.Wrote.{Wrote}
 use Rattle.text.proofs.Writing.{wrote-as, wrote-then, wrote-one-more}
 use Rattle.text.proofs.Putting.{Puts, put-wrote, put-refusal, wrote-told}
-use Rattle.submerged_extinguished_pages.specs.DistancePages.{pageWith, qiTold, qiLine, qiLines, moonAt, moonLines}
+use Rattle.submerged_extinguished_pages.specs.DistancePages.{pageWith, qiTold, qiLine, qiLines, moonLineAt, moonLines}
 
 -- The line of the answer for a qi that was asked for.
 pub wrote-asked : {b a : List ℕ} {at e : ℕ} {got : Answer} (system n i : ℕ) → got ≡ submergedOf system n i
@@ -33,19 +33,19 @@ wrote-qi-lines system n i l h w =
     let all : i ≡ 25 = omega arith in wrote-as (ap (textsUpTo (qiLine system n)) all) w
 
 pub wrote-moon-more : {b m a : List ℕ} {at p e : ℕ} (days : ExtinguishedDays) (i : ℕ)
-    → Wrote b at (textsUpTo (moonAt days) i) m p
-    → Wrote m p (moonAt days i) a e
-    → Wrote b at (textsUpTo (moonAt days) (i + 1)) a e
-wrote-moon-more days i w v = wrote-one-more (moonAt days) i w v
+    → Wrote b at (textsUpTo (moonLineAt days) i) m p
+    → Wrote m p (moonLineAt days i) a e
+    → Wrote b at (textsUpTo (moonLineAt days) (i + 1)) a e
+wrote-moon-more days i w v = wrote-one-more (moonLineAt days) i w v
 
 pub wrote-moon-lines : {b a : List ℕ} {at e : ℕ} (days : ExtinguishedDays) (count i : ℕ) → count ≡ days .count
     → i ≤ count
     → count ≤ i
-    → Wrote b at (textsUpTo (moonAt days) i) a e
+    → Wrote b at (textsUpTo (moonLineAt days) i) a e
     → Wrote b at (moonLines days) a e
 unfolding moonLines
 wrote-moon-lines days count i is l h w =
-    let all : i ≡ days .count = omega arith in wrote-as (ap (textsUpTo (moonAt days)) all) w
+    let all : i ≡ days .count = omega arith in wrote-as (ap (textsUpTo (moonLineAt days)) all) w
 
 -- A page: refused and answered.
 module _ {b a : List ℕ} {at e : ℕ} (bytes : List ℕ) (system n : ℕ) (lines : List ℕ) {got asked : ℕ} (is : got ≡ asked) where

@@ -49,11 +49,11 @@ abbrev pub moonLine : ℕ → Extinguished → List ℕ
 moonLine place moon = distanceLine (109 ∷ 111 ∷ 111 ∷ 110 ∷ []) place (moon .day .0) (moon .distance)
 
 -- That of the i-th new moon, from 0.
-abbrev pub moonAt : ExtinguishedDays → ℕ → List ℕ
-moonAt days i = moonLine (i + 1) (getD (days .moons) i unused)
+abbrev pub moonLineAt : ExtinguishedDays → ℕ → List ℕ
+moonLineAt days i = moonLine (i + 1) (getD (days .moons) i unused)
 
 unfoldable pub moonLines : ExtinguishedDays → List ℕ
-moonLines days = textsUpTo (moonAt days) (days .count)
+moonLines days = textsUpTo (moonLineAt days) (days .count)
 
 -- "extinguished "
 abbrev pub extinguishedWord : List ℕ

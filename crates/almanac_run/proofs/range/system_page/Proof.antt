@@ -1,4 +1,4 @@
-use Rattle.almanac_run.proofs.RequestedPages.{wrote-year, wrote-pentads, wrote-pentad, wrote-submerged, wrote-extinguished}
+use Rattle.almanac_run.proofs.RequestedPages.{wrote-page}
 use borrow.Author.Needs.{needs}
 use Rattle.almanac_run.proofs.range.system_page.Statement.{statement}
 use Rattle.almanac_run.proofs.range.system_page.Tie as tie
@@ -37,31 +37,31 @@ same-length : tie.Need-same-length
 same-length c = search needs
 
 returns : tie.Need-returns
-returns c = search wrote-year
+returns c = search wrote-page
 
 same-length-2 : tie.Need-same-length-2
 same-length-2 c = search needs
 
 returns-2 : tie.Need-returns-2
-returns-2 c = search wrote-pentads
+returns-2 c = search wrote-page
 
 same-length-3 : tie.Need-same-length-3
 same-length-3 c = search needs
 
 returns-3 : tie.Need-returns-3
-returns-3 c = search wrote-pentad
+returns-3 c = search wrote-page
 
 same-length-4 : tie.Need-same-length-4
 same-length-4 c = search needs
 
 returns-4 : tie.Need-returns-4
-returns-4 c = search wrote-submerged
+returns-4 c = search wrote-page
 
 same-length-5 : tie.Need-same-length-5
 same-length-5 c = search needs
 
 returns-5 : tie.Need-returns-5
-returns-5 c = search wrote-extinguished
+returns-5 c = search wrote-page
 
 pub system-page-spec : {M : Type 1} → statement M
 system-page-spec =

@@ -4,7 +4,7 @@ use native.Mathlib.Omega.{arith}
 use Rattle.text.specs.Wrote.{Wrote}
 use Rattle.text.specs.Piece.{textsUpTo}
 use Rattle.text.proofs.Writing.{wrote-no-texts}
-use Rattle.submerged_extinguished_pages.specs.DistancePages.{moonAt}
+use Rattle.submerged_extinguished_pages.specs.DistancePages.{moonLineAt}
 use Rattle.submerged_extinguished_pages.proofs.PageText.{wrote-moon-more, wrote-moon-lines}
 use borrow.Author.Needs.{needs}
 use Rattle.submerged_extinguished_pages.proofs.whole.moon_lines.Statement.{statement}
@@ -12,7 +12,7 @@ use Rattle.submerged_extinguished_pages.proofs.whole.moon_lines.Tie as 
 
 abbrev Inv-loop : tie.InvT-loop
 Inv-loop out₀ start days count at₀ i₀ out at i =
-    (count ≡ days .count) × (i ≤ count) × (at ≤ start + 38 * i) × Wrote out₀ start (textsUpTo (moonAt days) i) out at
+    (count ≡ days .count) × (i ≤ count) × (at ≤ start + 38 * i) × Wrote out₀ start (textsUpTo (moonLineAt days) i) out at
 
 abbrev μ-loop : tie.MeasureT-loop
 μ-loop out₀ start days count at₀ i₀ out at i = count - i
