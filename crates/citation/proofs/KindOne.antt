@@ -18,7 +18,8 @@ use Rattle.reckoning.proofs.ScopeInRegister.{year-in-register}
 use Rattle.reckoning.proofs.RegisterLaws.{first-head}
 use Rattle.reckoning.proofs.RefusalCases.{by-inside}
 use Rattle.reckoning.proofs.RequestsEnd.{date-outcome, year-day-in-scope}
-use Rattle.citation.specs.Record.{byte, Bytes, lengthField, kindOf, kindLength, systemOf, recordOf}
+use Rattle.little_endian.specs.Bytes.{byte, Bytes}
+use Rattle.citation.specs.Record.{lengthField, kindOf, kindLength, systemOf, recordOf}
 use Rattle.citation.specs.Record.{yearField, monthField, leapField, dayField}
 use Rattle.citation.specs.DayCited.{Dated, constantsIn, NamesDay, OnDate}
 use Rattle.citation.specs.CitationRefusals.{Accepted, citationRows, WrongLength, WrongSystem, WrongYear, NotPlaced}

@@ -12,7 +12,8 @@ use Rattle.calendar.proofs.EachSystem.{consistent}
 use Rattle.calendar.proofs.Reckoned.{reckoned}
 use Rattle.calendar.proofs.Laws.{number-inside, mark-inside}
 use Rattle.reckoning.specs.Scope.{InScope}
-use Rattle.citation.specs.Record.{Bytes, yearField, recordOf}
+use Rattle.little_endian.specs.Bytes.{Bytes}
+use Rattle.citation.specs.Record.{yearField, recordOf}
 use Rattle.citation.specs.DayCited.{elapsedIn, CitedMonth, NamesDay, OnDate}
 use Rattle.citation.specs.CitationRefusals.{TooShort, WrongKind, RetiredKind, WrongLength}
 use Rattle.citation.specs.CitationRefusals.{Placed, NotPlaced, Accepted}

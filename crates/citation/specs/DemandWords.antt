@@ -9,7 +9,8 @@ use Rattle.calendar.specs.ExactlyOne.{ExactlyOne}
 use Rattle.calendar.specs.Systems.{constantsOf, IsRegisterDay}
 use Rattle.calendar.specs.Month.{InMonth, monthLength, HoldsSome, Lacks}
 use Rattle.calendar.specs.Year.{Span, monthCount, InYear, DayOfYear}
-use Rattle.citation.specs.Record.{Bytes, kindOf, systemOf}
+use Rattle.little_endian.specs.Bytes.{Bytes}
+use Rattle.citation.specs.Record.{kindOf, systemOf}
 use Rattle.citation.specs.DayCited.{NamesDay}
 use Rattle.citation.specs.CitationRefusals.{Accepted}
 use Rattle.citation.specs.Store.{storedInto}

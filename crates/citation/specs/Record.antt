@@ -1,18 +1,10 @@
 -- The record formats of the kinds: paper 01, "Citation records", and paper 02, Q-7. Numbers are little-endian.
-use Prim.Native.Nat.{ℕ, _/_, _%_, _<_}
+use Prim.Native.Nat.{ℕ, _/_, _%_}
 use mathlib.Core.Bool.{cond}
 use mathlib.Core.List.{List, [], _∷_}
-use lib.ListN.{getD}
 use Rattle.reckoning.specs.ComputedRefusals.{outside}
 use Rattle.little_endian.specs.Number.{le16, le32}
-
--- The byte at place i.
-abbrev pub byte : List ℕ → ℕ → ℕ
-byte s i = getD s i 0
-
--- Every element of a list is a byte.
-abbrev pub Bytes : List ℕ → Type 0
-Bytes s = (i : ℕ) → byte s i < 256
+use Rattle.little_endian.specs.Bytes.{byte}
 
 -- Bytes 0 and 1: the length of the whole record. Bytes 2 and 3: the kind. Byte 4: the system.
 abbrev pub lengthField : List ℕ → ℕ

@@ -8,11 +8,9 @@ use crate::judge::judge;
 use crate::output::put;
 use reckoning::refusal_numbers::LEAP;
 use reckoning::refusal_numbers::OUTPUT;
+use reckoning::refusal_numbers::REFUSAL_UNIT;
 
-// 2^32: a refusal number stands above the 32 bits of a day,
-pub const REFUSAL_UNIT: u64 = 4_294_967_296;
-
-// and 2^40: the month that it tells stands above its 8 bits.
+// 2^40: the month that a refusal tells stands above the 8 bits of its number.
 const TOLD_UNIT: u64 = 1_099_511_627_776;
 
 // The answer of a refusal. Only LEAP has a month to add; the others do not depend on it.

@@ -9,7 +9,8 @@ use lib.Seq.{getD-set-same, getD-set-other, take-at, drop-at}
 use Rattle.calendar.proofs.Rising.{by-order}
 use Rattle.reckoning.specs.RefusalNumbers.{KIND}
 use Rattle.reckoning.specs.WordedRefusals.{FirstOf}
-use Rattle.citation.specs.Record.{byte, kindOf, nameField}
+use Rattle.little_endian.specs.Bytes.{byte}
+use Rattle.citation.specs.Record.{kindOf, nameField}
 use Rattle.citation.proofs.JudgementCases.{by-equal}
 use Rattle.citation.proofs.RowLaws.{first-unique}
 use Rattle.citation.proofs.TenBytes.{elements, elements-all}

@@ -9,7 +9,8 @@ use lib.ListN.{length, set, drop, length-set, drop-of-length-le}
 use borrow.Author.Tests.{eq-eqb, ne-eqb, lt-ltb, le-ltb, le-leb}
 use Rattle.calendar.proofs.Cases.{by-bool}
 use Rattle.reckoning.specs.RefusalNumbers.{KIND, OUTPUT}
-use Rattle.citation.specs.Record.{byte, nameField}
+use Rattle.little_endian.specs.Bytes.{byte}
+use Rattle.citation.specs.Record.{nameField}
 use Rattle.citation.specs.Output.{recordInto}
 use Rattle.citation.proofs.TenBytes.{elements, elements-all}
 use Rattle.conversion.specs.Conversion.{conversionRefusal, refusalInto, converted, conversionAnswer, convertedInto, renewed, leftWith}

@@ -8,12 +8,12 @@ ghost use Rattle.conversion.specs.Conversion.{conversionRefusal, convert
 ghost use Rattle.conversion.specs.Conversion.{convertedInto, renewed, leftWith};
 use citation::output::Record;
 use citation::output::put;
-use citation::store::REFUSAL_UNIT;
 use little_endian::le16;
 use reckoning::refusal_numbers::DAY;
 use reckoning::refusal_numbers::KIND;
 use reckoning::refusal_numbers::LENGTH;
 use reckoning::refusal_numbers::OUTPUT;
+use reckoning::refusal_numbers::REFUSAL_UNIT;
 use reckoning::refusal_numbers::SHORT;
 
 // A record that is converted.

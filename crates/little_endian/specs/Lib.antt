@@ -1,3 +1,5 @@
--- Numbers read from bytes.
--- Numbers of two and of four bytes.
+-- Numbers as bytes.
+-- Bytes by their place.
+pub mod Bytes
+-- Numbers of two, of four and of eight bytes.
 pub mod Number

@@ -1,16 +1,16 @@
--- The numbers of the refusals: paper 01, "Numbered refusals", and paper 02, Q-3, Q-4, Q-7 and Q-10. Each name says what
--- is wrong, as in include/chiselbrow.h.
+-- The numbers of the refusals: paper 01, "Numbered refusals", and paper 02, Q-3, Q-4, Q-7, Q-10 and Q-11. Each name
+-- says what is wrong, as in include/chiselbrow.h.
 use Prim.Native.Nat.{ℕ}
 
 -- The input is too short to be a record.
 abbrev pub SHORT : ℕ
 SHORT = 1
 
--- There is no such kind.
+-- There is no such kind, or no such tag.
 abbrev pub KIND : ℕ
 KIND = 2
 
--- A length is not that of the kind.
+-- A length is not that of the kind, or of a row.
 abbrev pub LENGTH : ℕ
 LENGTH = 3
 
@@ -30,7 +30,7 @@ MONTH = 6
 abbrev pub DAY : ℕ
 DAY = 7
 
--- The output is too short for a stored record.
+-- The output is too short for what is to be written.
 abbrev pub OUTPUT : ℕ
 OUTPUT = 8
 
@@ -45,3 +45,7 @@ LEAP = 10
 -- The kind is retired.
 abbrev pub RETIRED : ℕ
 RETIRED = 11
+
+-- It is no time of the day.
+abbrev pub TIME : ℕ
+TIME = 12

@@ -1,5 +1,5 @@
-// The numbers of the refusals: paper 01, "Numbered refusals", and paper 02, Q-3, Q-4 and Q-7. Each name says what is
-// wrong, as in include/chiselbrow.h; 0 is no refusal.
+// The numbers of the refusals: paper 01, "Numbered refusals", and paper 02, Q-3, Q-4, Q-7 and Q-11. Each name says what
+// is wrong, as in include/chiselbrow.h; 0 is no refusal.
 pub const SHORT: u8 = 1;
 
 pub const KIND: u8 = 2;
@@ -21,3 +21,8 @@ pub const STEP: u8 = 9;
 pub const LEAP: u8 = 10;
 
 pub const RETIRED: u8 = 11;
+
+pub const TIME: u8 = 12;
+
+// 2^32: in an answer to C a refusal number stands above the 32 bits of a day.
+pub const REFUSAL_UNIT: u64 = 4_294_967_296;

@@ -1,0 +1,17 @@
+-- Theorems on fractions of a day, and laws that serve several functions.
+-- The order of floats that are finite and not below zero.
+pub mod Sizes
+-- Quotients rounded once.
+pub mod Rounding
+-- Fractions that a float is exactly.
+pub mod Exactness
+-- The fractions of the counts of a day's parts.
+pub mod Counts
+-- The largest count whose fraction is not above another.
+pub mod Largest
+-- A fraction of a day times the parts of a day.
+pub mod Product
+-- What the code settles a fraction to, by its tests.
+pub mod Ends
+-- The exported fraction of a count settles to that count.
+pub mod ComesBack

@@ -1,0 +1,33 @@
+use mathlib.Core.Path.{sym, subst, ap, _∙_}
+use native.Mathlib.Omega.{arith}
+use lib.Dec.{T}
+use lib.Ieee.{ofBits}
+use borrow.Author.Tests.{lt-ltb, le-ltb}
+use Rattle.day_fraction.specs.Settling.{isFraction, settledOf}
+use Rattle.day_fraction.proofs.Ends.{is-fraction, no-parts, settled, below-zero, from-one}
+use Rattle.day_fraction.proofs.settle.Statement.{statement}
+use Rattle.day_fraction.proofs.settle.Tie as tie
+
+returns : tie.Need-returns
+returns c = no-parts _ _ (c .if1 .taken)
+
+count-requires : tie.Need-count-requires
+unfolding ofBits
+count-requires c κs = (omega (arith, c .before .before .if1 .left), is-fraction _ (c .before .if2 .taken) (c .if3 .taken))
+
+returns-2 : tie.Need-returns-2
+unfolding ofBits
+returns-2 c =
+    let inside = c .before in
+    settled _ _ (omega (arith, inside .before .before .if1 .left)) (inside .before .if2 .taken) (inside .if3 .taken) (c .count .ensures)
+
+returns-3 : tie.Need-returns-3
+unfolding ofBits
+returns-3 c = from-one _ _ (c .if3 .left)
+
+returns-4 : tie.Need-returns-4
+unfolding ofBits
+returns-4 c = below-zero _ _ (c .if2 .left)
+
+pub settle-spec : {M : Type 1} → statement M
+settle-spec = tie.close (tie.spec returns count-requires returns-2 returns-3 returns-4)

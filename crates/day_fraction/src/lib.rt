@@ -1,0 +1,64 @@
+// A time of day as a fraction of the day: from a count of parts, and back to one.
+ghost use mathlib.Core.Path.{_≡_};
+ghost use Prim.Native.Nat.{_<_};
+ghost use lib.Dec.{T};
+ghost use Rattle.day_fraction.specs.Fraction.{fractionOf};
+ghost use Rattle.day_fraction.specs.Settling.{isFraction, notAbove, countOf, settledOf};
+ghost use Rattle.day_fraction.specs.Guess.{bit, NearCut};
+
+// The count of parts that a time settles to; none where it is no time of the day.
+pub enum Settled {
+    None,
+    Count(u16),
+}
+
+// So many of the parts of a day, as a fraction of it: one quotient, rounded once.
+pub fn fraction(day: u16, parts: u32) -> f64
+    ensures { λ r. ⌜ r ≡ fractionOf day parts ⌝ }
+{
+    parts as f64 / day as f64
+}
+
+// 1 where the fraction of a count is not above f, and 0 where it is.
+fn not_above(day: u16, parts: u32, f: f64) -> u32
+    ensures { λ r. ⌜ r ≡ bit (notAbove day f parts) ⌝ }
+{
+    if fraction(day, parts) <= f { 1 } else { 0 }
+}
+
+// The count that f is cut down to, or the next: rounding does not take a product past a whole number.
+fn guess(day: u16, f: f64) -> u32
+    requires { ⌜ (0 < day) × T (isFraction f) ⌝ }
+    ensures { λ r. ⌜ NearCut day f r ⌝ }
+{
+    let product = f * day as f64;
+    std::num::truncating_f64_to_u64(product) as u32
+}
+
+// The largest count whose fraction is not above f is the one that f is cut down to, or the next. It is the one before the
+// guess, and one more for each that passes of the guess and the next.
+fn count(day: u16, f: f64) -> u16
+    requires { ⌜ (0 < day) × T (isFraction f) ⌝ }
+    ensures { λ r. ⌜ r ≡ countOf day f ⌝ }
+{
+    let guess = guess(day, f);
+    let at_guess = not_above(day, guess, f);
+    let after_guess = not_above(day, guess + 1, f);
+    (guess + at_guess + after_guess - 1) as u16
+}
+
+// The count that a fraction of the day settles to.
+pub fn settle(day: u16, f: f64) -> Settled
+    ensures { λ r. ⌜ r ≡ settledOf day f ⌝ }
+{
+    if day == 0 {
+        return Settled::None;
+    }
+    if 0.0 <= f {
+        if f < 1.0 {
+            return Settled::Count(count(day, f));
+        }
+        return Settled::None;
+    }
+    Settled::None
+}
