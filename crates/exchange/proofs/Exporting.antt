@@ -31,28 +31,40 @@ module _ (system parts room : ℕ) where
       unfolding exportRefusal
       none h = simp (ne-eqb (partsInDay system) 0 some, lt-leb (partsInDay system) parts below, le-ltb room 13 h)
 
--- What is answered and written with it.
-module _ (system day parts units : ℕ) (before : List ℕ) where
+-- What is answered with it,
+module _ (system parts units room : ℕ) where
   abbrev refusal : ℕ
-  refusal = exportRefusal system parts (length before)
+  refusal = exportRefusal system parts room
 
-  pub refused : (number : ℕ) → refusal ≡ number → (number ≡ 0 → ⊥)
-      → (2 ^ 32 * number ≡ exportAnswer system parts units (length before)) × (before ≡ exportedInto system day parts before)
-  unfolding exportAnswer exportedInto
-  refused number is some =
-      let not-0 = ne-eqb refusal 0 (λ z. some (sym is ∙ z)) in
-      (simp not-0 (omega (arith, is)), simp not-0)
+  pub whole-parts : refusal ≡ 0 → units ≡ 0 → 0 ≡ exportAnswer system parts units room
+  unfolding exportAnswer
+  whole-parts accepted none = simp (eq-eqb refusal 0 accepted, eq-eqb units 0 none) (omega (arith, accepted))
 
-  module _ (accepted : refusal ≡ 0) where
-    pub written : {row : List ℕ} → row ≡ rowOf day (fractionOf (partsInDay system) parts)
-        → take (length row) row ++ drop (length row) before ≡ exportedInto system day parts before
-    unfolding exportedInto
-    written is = ap (λ r. take (length r) r ++ drop (length r) before) is ∙ simp (eq-eqb refusal 0 accepted)
+  pub units-cut : refusal ≡ 0 → (units ≡ 0 → ⊥) → 1 ≡ exportAnswer system parts units room
+  unfolding exportAnswer
+  units-cut accepted some = simp (eq-eqb refusal 0 accepted, ne-eqb units 0 some) (omega (arith, accepted))
 
-    pub whole-parts : units ≡ 0 → 0 ≡ exportAnswer system parts units (length before)
-    unfolding exportAnswer
-    whole-parts none = simp (eq-eqb refusal 0 accepted, eq-eqb units 0 none) (omega (arith, accepted))
+  pub told : (number : ℕ) → refusal ≡ number → (number ≡ 0 → ⊥) → 2 ^ 32 * number ≡ exportAnswer system parts units room
+  unfolding exportAnswer
+  told number is some = simp (ne-eqb refusal 0 (λ z. some (sym is ∙ z))) (omega (arith, is))
 
-    pub units-cut : (units ≡ 0 → ⊥) → 1 ≡ exportAnswer system parts units (length before)
-    unfolding exportAnswer
-    units-cut some = simp (eq-eqb refusal 0 accepted, ne-eqb units 0 some) (omega (arith, accepted))
+-- and written.
+module _ (system day parts : ℕ) (before : List ℕ) where
+  abbrev refusal-here : ℕ
+  refusal-here = exportRefusal system parts (length before)
+
+  pub left-alone : (refusal-here ≡ 0 → ⊥) → before ≡ exportedInto system day parts before
+  unfolding exportedInto
+  left-alone some = simp (ne-eqb refusal-here 0 some)
+
+  pub written : refusal-here ≡ 0 → {row : List ℕ} → row ≡ rowOf day (fractionOf (partsInDay system) parts)
+      → take (length row) row ++ drop (length row) before ≡ exportedInto system day parts before
+  unfolding exportedInto
+  written accepted is =
+      ap (λ r. take (length r) r ++ drop (length r) before) is ∙ simp (eq-eqb refusal-here 0 accepted)
+
+pub refused : (system day parts units : ℕ) (before : List ℕ) (number : ℕ) → exportRefusal system parts (length before) ≡ number
+    → (number ≡ 0 → ⊥)
+    → (2 ^ 32 * number ≡ exportAnswer system parts units (length before)) × (before ≡ exportedInto system day parts before)
+refused system day parts units before number is some =
+    (told system parts units (length before) number is some, left-alone system day parts before (λ z. some (sym is ∙ z)))

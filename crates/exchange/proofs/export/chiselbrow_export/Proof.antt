@@ -46,7 +46,7 @@ output c =
     let start = entry (asked (tested row)) in
     let fraction = row .before .fraction .ensures ∙ ap (λ d. fractionOf d (start .args .parts)) (asked (tested row) .parts-in-day .ensures) in
     c .before .before .copy .ensures .1
-    ∙ written _ _ _ (start .args .units) (start .args .output .now) (accepted (tested row)) (row .of-fraction .ensures ∙ ap (rowOf _) fraction)
+    ∙ written _ _ _ (start .args .output .now) (accepted (tested row)) (row .of-fraction .ensures ∙ ap (rowOf _) fraction)
 
 parts-in-day-requires : tie.Need-parts-in-day-requires
 parts-in-day-requires c κs = search needs
@@ -107,13 +107,13 @@ same-length : tie.Need-same-length
 same-length c = search needs
 
 returns-4 : tie.Need-returns-4
-returns-4 c = (whole-parts _ (entry (asked (tested (made (c .before)))) .args .day) _ _ _ (accepted (tested (made (c .before)))) (c .if4 .taken), output (c .before))
+returns-4 c = (whole-parts _ _ _ _ (accepted (tested (made (c .before)))) (c .if4 .taken), output (c .before))
 
 same-length-2 : tie.Need-same-length-2
 same-length-2 c = search needs
 
 returns-5 : tie.Need-returns-5
-returns-5 c = (units-cut _ (entry (asked (tested (made (c .before)))) .args .day) _ _ _ (accepted (tested (made (c .before)))) (c .if4 .left), output (c .before))
+returns-5 c = (units-cut _ _ _ _ (accepted (tested (made (c .before)))) (c .if4 .left), output (c .before))
 
 pub chiselbrow-export-spec : {M : Type 1} → statement M
 chiselbrow-export-spec =
