@@ -12,17 +12,11 @@ use lib.Ieee.Order.{round-mono}
 use lib.Ieee.Positive.{num, den, den-pos, through}
 use Rattle.day_fraction.specs.Fraction.{fractionOf}
 use Rattle.day_fraction.specs.Settling.{isFraction, notAbove, countOf}
-use Rattle.day_fraction.proofs.Sizes.{isSize, le→sizes, sizes→le}
+use Rattle.day_fraction.proofs.Sizes.{isSize, size-number, le→sizes, sizes→le}
 use Rattle.day_fraction.proofs.Rounding.{rounded, at-most, fraction-is}
 use Rattle.day_fraction.proofs.Exactness.{binary}
 use Rattle.day_fraction.proofs.Counts.{size, rises}
 use Rattle.day_fraction.proofs.Largest.{last-is}
-
-size-number : (x : Float) → T (isSize x) → T (not (isNan x))
-unfolding isNan
-size-number nan s = absurd s
-size-number (inf b) s = absurd s
-size-number (fin b m e) s = tt
 
 below-one : (x : Float) → T (isSize x) → num x < den x → T (lt x (fin false 1 (pos 0)))
 unfolding lt

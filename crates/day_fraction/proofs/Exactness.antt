@@ -6,7 +6,7 @@ use native.Mathlib.Nat.{lt-of-lt-of-le, not-le-of-lt, mul-assoc, mul-pos, zero-m
 use native.Mathlib.Omega.{arith}
 use native.Mathlib.Decide.{decLt}
 use lib.Dec.{T, ltb, leb, eqb, eqb→eq, ltb→lt, leb→le, lit<}
-use lib.IntN.{pos, negsuc}
+use lib.IntN.{ℤ, pos, negsuc}
 use lib.Pow.{pow-pos, pow-mono, pow-lt, pow-add, shl-lt}
 use lib.Ieee.{Float, nan, inf, fin, binary64, up, down, fits}
 use lib.Ieee.Fits.{and-l, and-r, down-pos}
@@ -31,20 +31,26 @@ nothing b some = round-exact binary64 false 0 b 0 0 some (pow-pos 53) (pow-pos 2
 places : (k : ℕ) → 2 ^ k ≤ 2 ^ 1074 → k ≤ 1074
 places k h = elim (decLt 1074 k) [ yes l ↦ absurd (not-le-of-lt (pow-lt {i = 1074} {j = k} l) h) | no l ↦ omega arith ]
 
+-- A float has no more digits, nor places.
+pub digits : (b : Bool) (m : ℕ) (e : ℤ) → T (fits binary64 (fin b (suc m) e)) → (suc m < 2 ^ 53) × (down e ≤ 2 ^ 1074)
+unfolding fits
+digits b m e t =
+    let odd : Bool = eqb (suc m % 2) 1 in
+    let few : Bool = ltb (suc m) (2 ^ 53) in
+    let fine : Bool = leb (down e) (2 ^ 1074) in
+    let finite : Bool = ltb (suc m * up e) (2 ^ 1024 * down e) in
+    let three = and-l (odd && few && fine) finite t in (
+      ltb→lt (suc m) (2 ^ 53) (and-r odd few (and-l (odd && few) fine three)),
+      leb→le (down e) (2 ^ 1074) (and-r (odd && few) fine three),
+    )
+
 -- What a float below one is.
 pub own : (f : Float) → T (fits binary64 f) → T (isSize f) → num f < den f → Exact (num f) (den f)
-unfolding fits
 own nan t s below = absurd s
 own (inf b) t s below = absurd s
 own (fin b zero e) t s below = subst (λ a. Exact a (down e)) (sym (zero-mul (up e))) (nothing (down e) (down-pos e))
 own (fin true (suc m) e) t s below = absurd (let z = eqb→eq (suc m) 0 s in omega arith)
 own (fin false (suc m) (pos k)) t s below = absurd (omega (arith, mul-pos {m = suc m} {n = 2 ^ k} (omega arith) (pow-pos k)))
 own (fin false (suc m) (negsuc k)) t s below =
-    let a : Bool = eqb (suc m % 2) 1 in
-    let b : Bool = ltb (suc m) (2 ^ 53) in
-    let c : Bool = leb (2 ^ suc k) (2 ^ 1074) in
-    let d : Bool = ltb (suc m * 1) (2 ^ 1024 * 2 ^ suc k) in
-    let abc = and-l (a && b && c) d t in
-    let small = ltb→lt (suc m) (2 ^ 53) (and-r a b (and-l (a && b) c abc)) in
-    let fine = leb→le (2 ^ suc k) (2 ^ 1074) (and-r (a && b) c abc) in
-    subst (λ n. Exact n (2 ^ suc k)) (omega arith) (binary (suc m) (suc k) small (places (suc k) fine))
+    let few = digits false m (negsuc k) t in
+    subst (λ n. Exact n (2 ^ suc k)) (omega arith) (binary (suc m) (suc k) (few .0) (places (suc k) (few .1)))

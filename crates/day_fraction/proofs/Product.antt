@@ -1,20 +1,24 @@
 -- A fraction of a day times the parts of a day, rounded and then cut down.
 use Prim.Native.Nat.{ℕ, zero, suc, _+_, _*_, _-_, _/_, _^_, _≤_, _<_, min}
-use mathlib.Core.Path.{_≡_, refl, sym, ap, subst, _∙_}
-use mathlib.Core.Bool.{Bool, true, false, cond, true≢false}
-use native.Mathlib.Nat.{mul-pos, mul-le-mul-right, zero-mul, min-eq-left, div-le-self, div-mul-le-self, lt-div-mul-add, div-lt-iff-lt-mul, le-div-iff-mul-le}
+use mathlib.Core.Path.{_≡_, refl, sym, ap, ap₂, subst, _∙_}
+use mathlib.Core.Bool.{true, false, not, true≢false}
+use native.Mathlib.Nat.{le-trans, le-of-eq, lt-of-lt-of-le, not-le-of-lt, div-one, mul-pos, mul-le-mul-right, zero-mul, min-eq-left, div-le-self, div-mul-le-self, lt-div-mul-add, div-lt-iff-lt-mul, le-div-iff-mul-le}
 use native.Mathlib.Omega.{arith}
 use lib.Dec.{T, ltb, eqb, eqb→eq, lt→ltb}
-use lib.IntN.{pos}
-use lib.Pow.{pow-pos}
-use lib.Ieee.{Float, nan, inf, fin, binary64, up, down, round, ofInt, mul, lt, toUnsigned}
-use lib.Ieee.Fits.{up-pos, down-pos}
+use lib.IntN.{pos, negsuc}
+use lib.Pow.{pow-pos, pow-mono, pow-add, shl-lt, shl-shr}
+use lib.Ieee.Digits.{size-lt, size-le}
+use native.Mathlib.Decide.{decLt}
+use borrow.Author.Tests.{lt-ltb}
+use lib.Ieee.{Float, nan, inf, fin, binary64, up, down, size, round, ofInt, mul, add, sum, fits, isNan, toBits}
+use lib.Ieee.Fits.{up-pos, down-pos, round-fits}
 use lib.Ieee.Exact.{HasValue, round-exact}
 use lib.Ieee.Positive.{num, den, den-pos}
 use lib.Ieee.Scale.{round-same}
 use Rattle.day_fraction.specs.Settling.{isFraction}
 use Rattle.day_fraction.specs.Guess.{cutOf, NearCut}
-use Rattle.day_fraction.proofs.Sizes.{isSize, fraction-size}
+use Rattle.day_fraction.proofs.Sizes.{isSize, size-number, fraction-size}
+use Rattle.day_fraction.proofs.Exactness.{digits}
 use Rattle.day_fraction.proofs.Rounding.{rounded, rounded-size, at-most, at-least, whole}
 
 -- A float that is zero, of either sign.
@@ -91,35 +95,58 @@ product day (fin true m e) (fin false n k) s below some few v =
     gone : a ≡ 0
     gone = ap (λ i. i * (n * up k)) (left (up e) (eqb→eq m 0 s)) ∙ zero-mul (n * up k)
 
--- The whole part of a product.
-cut-down : (p : Float) → T (isSize p) → num p / den p < 2 ^ 64 → toUnsigned 64 p ≡ num p / den p
-unfolding toUnsigned
-cut-down nan s small = absurd s
-cut-down (inf b) s small = absurd s
-cut-down (fin false m e) s small = min-eq-left (omega arith)
-cut-down (fin true m e) s small =
-    let z : m * up e ≡ 0 = ap (λ i. i * up e) (eqb→eq m 0 s) ∙ zero-mul (up e) in
-    omega (arith, div-le-self (m * up e) (down e))
+alike : (a b c d : ℕ) → a ≡ c → b ≡ d → rounded a b ≡ rounded c d
+alike a b c d p q = ap₂ rounded p q
 
-above-minus-one : (p : Float) → T (isSize p) → T (lt (fin true 1 (pos 0)) p)
-unfolding lt
-above-minus-one nan s = absurd s
-above-minus-one (inf b) s = absurd s
-above-minus-one (fin false m e) s = lt→ltb 0 (1 * 1 * down e + m * up e * 1) (omega (arith, down-pos e))
-above-minus-one (fin true m e) s =
+-- With 2^52 added it is rounded to a whole number, since the floats from there up to 2^53 are whole.
+shifted : (p : Float) → T (isSize p) → add binary64 p (fin false 1 (pos 52)) ≡ rounded (num p + 2 ^ 52 * den p) (den p)
+unfolding add sum
+shifted nan s = absurd s
+shifted (inf b) s = absurd s
+shifted (fin false m e) s = alike (m * up e * 1 + 2 ^ 52 * down e) (down e * 1) (m * up e + 2 ^ 52 * down e) (down e) (omega arith) (omega arith)
+shifted (fin true m e) s =
     let z : m * up e ≡ 0 = ap (λ i. i * up e) (eqb→eq m 0 s) ∙ zero-mul (up e) in
-    lt→ltb (m * up e * 1) (1 * 1 * down e) (omega (arith, down-pos e))
+    simp (lt-ltb (m * up e * 1) (2 ^ 52 * down e) (omega (arith, down-pos e)))
+    (alike (2 ^ 52 * down e - m * up e * 1) (down e * 1) (m * up e + 2 ^ 52 * down e) (down e) (omega arith) (omega arith))
 
-below-two-to-the-64 : (p : Float) → T (isSize p) → num p < 2 ^ 64 * den p → T (lt p (fin false 1 (pos 64)))
-unfolding lt
-below-two-to-the-64 nan s h = absurd s
-below-two-to-the-64 (inf b) s h = absurd s
-below-two-to-the-64 (fin false m e) s h = lt→ltb (m * up e * 1) (1 * 2 ^ 64 * down e) (omega arith)
-below-two-to-the-64 (fin true m e) s h = lt→ltb 0 (m * up e * 1 + 1 * 2 ^ 64 * down e) (omega (arith, down-pos e))
+-- The pattern of such a whole number.
+scaled-size : (v l : ℕ) → 2 ^ 52 ≤ v → v < 2 ^ 53 → size (v * 2 ^ l) ≡ 53 + l
+scaled-size v l least most =
+    let n = v * 2 ^ l in
+    let reached : 2 ^ (52 + l) ≤ n = le-trans (le-of-eq (pow-add 2 52 l)) (mul-le-mul-right (2 ^ l) least) in
+    let upper : size n ≤ 53 + l = size-le n (53 + l) (shl-lt 53 l most) in
+    elim (decLt (52 + l) (size n)) [
+      | yes h ↦ omega arith
+      | no h ↦ absurd (not-le-of-lt (lt-of-lt-of-le (size-lt n) (pow-mono {i = size n} {j = 52 + l} (omega arith))) reached)
+    ]
+
+pattern-of-whole : (m k : ℕ) → 2 ^ 52 ≤ m * 2 ^ k → m * 2 ^ k < 2 ^ 53
+    → toBits binary64 (fin false m (pos k)) ≡ 1074 * 2 ^ 52 + m * 2 ^ k
+unfolding toBits
+pattern-of-whole m k least most =
+    let v = m * 2 ^ k in
+    ap (λ n. 0 + (size n - 53) * 2 ^ 52 + n / 2 ^ (size n - 53)) (div-one (v * 2 ^ 1074))
+    ∙ ap (λ z. 0 + (z - 53) * 2 ^ 52 + v * 2 ^ 1074 / 2 ^ (z - 53)) (scaled-size v 1074 least most)
+    ∙ ap (λ z. 1074 * 2 ^ 52 + z) (shl-shr v 1074)
+
+-- A float from 2^52 on is whole.
+whole-float : (q : Float) → T (fits binary64 q) → T (isSize q) → 2 ^ 52 * den q ≤ num q → num q < 2 ^ 53 * den q
+    → (den q ≡ 1) × (toBits binary64 q ≡ 1074 * 2 ^ 52 + num q)
+whole-float nan t s least most = absurd s
+whole-float (inf b) t s least most = absurd s
+whole-float (fin true m e) t s least most =
+    absurd (omega (arith, down-pos e, ap (λ i. i * up e) (eqb→eq m 0 s), zero-mul (up e)))
+whole-float (fin false m (pos k)) t s least most = (refl, pattern-of-whole m k (omega arith) (omega arith))
+whole-float (fin false zero (negsuc k)) t s least most = absurd (omega (arith, pow-pos (suc k)))
+whole-float (fin false (suc m) (negsuc k)) t s least most =
+    absurd (omega (arith, digits false m (negsuc k) t .0, pow-mono {i = 1} {j = suc k} (omega arith)))
 
 module _ (day : ℕ) (f : Float) (some : 0 < day) (few : day < 2 ^ 16) (t : T (isFraction f)) where
   abbrev p : Float
   p = mul binary64 f (ofInt binary64 (pos day))
+
+  abbrev q : Float
+  q = add binary64 p (fin false 1 (pos 52))
 
   between : Between day f p
   unfolding ofInt
@@ -128,19 +155,47 @@ module _ (day : ℕ) (f : Float) (some : 0 < day) (few : day < 2 ^ 16) (t : T (i
   inside : cutOf day f < day
   inside = div-lt-iff-lt-mul (den-pos f) .1 (omega (arith, mul-le-mul-right day (fraction-size f t .1)))
 
-  pub truncates : T (lt (fin true 1 (pos 0)) p) × T (lt p (fin false 1 (pos 64)))
-  truncates = (
-    above-minus-one p (between .size),
-    below-two-to-the-64 p (between .size) (omega (arith, between .most, den-pos p, inside, mul-le-mul-right {m = cutOf day f + 1} {n = 2 ^ 16} (den p) (omega (arith, inside)))),
-  )
+  -- The sum lies between that count and the next, too, each with 2^52 added.
+  abbrev a : ℕ
+  a = num p + 2 ^ 52 * den p
 
-  pub near : NearCut day f (toUnsigned 64 p)
-  near =
-      let whole-part = num p / den p in
-      let least : cutOf day f ≤ whole-part = le-div-iff-mul-le (den-pos p) .1 (between .least) in
-      let most : whole-part < cutOf day f + 2 = div-lt-iff-lt-mul (den-pos p) .1 (omega (arith, between .most, den-pos p)) in
-      let is = cut-down p (between .size) (omega (arith, inside)) in
-      record { at-least = omega arith; at-most = omega arith }
+  is-sum : q ≡ rounded a (den p)
+  is-sum = shifted p (between .size)
 
-  pub guess-small : toUnsigned 64 p < 2 ^ 32
-  guess-small = omega (arith, near .at-most, inside)
+  sum-size : T (isSize (rounded a (den p)))
+  sum-size = rounded-size a (den p) (cutOf day f + 1 + 2 ^ 52) (den-pos p) (omega (arith, inside)) (omega (arith, between .most))
+
+  sum-between : ((cutOf day f + 2 ^ 52) * den (rounded a (den p)) ≤ num (rounded a (den p)))
+      × (num (rounded a (den p)) ≤ (cutOf day f + 1 + 2 ^ 52) * den (rounded a (den p)))
+  sum-between =
+      let least = cutOf day f + 2 ^ 52 in
+      let most = cutOf day f + 1 + 2 ^ 52 in (
+        omega (arith, at-least a (den p) least 1 (den-pos p) (omega arith) sum-size (whole least (omega (arith, inside))) (omega (arith, between .least))),
+        omega (arith, at-most a (den p) most 1 (den-pos p) (omega arith) sum-size (whole most (omega (arith, inside))) (omega (arith, between .most))),
+      )
+
+  -- So its pattern counts on from that of 2^52.
+  pattern : (1075 * 2 ^ 52 + cutOf day f ≤ toBits binary64 q) × (toBits binary64 q ≤ 1075 * 2 ^ 52 + cutOf day f + 1)
+  pattern =
+      let y = rounded a (den p) in
+      let near = sum-between in
+      let is =
+      whole-float y (round-fits binary64 false a (den p)) sum-size (omega (arith, near .0, mul-le-mul-right {m = 2 ^ 52} {n = cutOf day f + 2 ^ 52} (den y) (omega arith)))
+      (omega (arith, near .1, den-pos y, mul-le-mul-right {m = cutOf day f + 1 + 2 ^ 52} {n = 2 ^ 53 - 1} (den y) (omega (arith, inside))))
+      in
+      let bits = ap (toBits binary64) is-sum in
+      let low = ap (λ d. (cutOf day f + 2 ^ 52) * d) (is .0) in
+      let high = ap (λ d. (cutOf day f + 1 + 2 ^ 52) * d) (is .0) in
+      (omega (arith, is .1, near .0), omega (arith, is .1, near .1))
+
+  pub sum-number : T (not (isNan q))
+  sum-number = subst (λ x. T (not (isNan x))) (sym is-sum) (size-number (rounded a (den p)) sum-size)
+
+  pub pattern-least : 1075 * 2 ^ 52 ≤ toBits binary64 q
+  pattern-least = omega (arith, pattern .0)
+
+  pub guess-small : toBits binary64 q - 1075 * 2 ^ 52 < 2 ^ 32
+  guess-small = omega (arith, pattern .1, inside)
+
+  pub near : NearCut day f (toBits binary64 q - 1075 * 2 ^ 52)
+  near = record { at-least = omega (arith, pattern .0); at-most = omega (arith, pattern .1) }

@@ -1,13 +1,13 @@
 -- Floats that are finite and not below zero: their order is that of the fractions that they are.
 use Prim.Native.Nat.{ℕ, zero, suc, _+_, _*_, _≤_, _<_}
 use mathlib.Core.Path.{_≡_, refl, sym, ap, subst, _∙_}
-use mathlib.Core.Bool.{Bool, true, false, _&&_, _||_, true≢false}
+use mathlib.Core.Bool.{Bool, true, false, not, _&&_, _||_, true≢false}
 use native.Mathlib.Nat.{zero-mul, mul-pos}
 use native.Mathlib.Omega.{arith}
 use native.Mathlib.Decide.{decLt}
 use lib.Dec.{T, leb, ltb, eqb, eqb→eq, ltb→lt, lt→ltb}
 use lib.IntN.{pos}
-use lib.Ieee.{Float, nan, inf, fin, up, down, le, lt}
+use lib.Ieee.{Float, nan, inf, fin, up, down, isNan, le, lt}
 use lib.Ieee.Fits.{up-pos, down-pos, and-l, and-r, eq→eqb}
 use lib.Ieee.Positive.{num, den}
 use Rattle.day_fraction.specs.Settling.{isFraction}
@@ -18,6 +18,12 @@ isSize nan = false
 isSize (inf s) = false
 isSize (fin false m e) = true
 isSize (fin true m e) = eqb m 0
+
+pub size-number : (x : Float) → T (isSize x) → T (not (isNan x))
+unfolding isNan
+size-number nan s = absurd s
+size-number (inf b) s = absurd s
+size-number (fin b m e) s = tt
 
 -- A product with no first factor.
 none : (m x y : ℕ) → T (eqb m 0) → m * x * y ≡ 0

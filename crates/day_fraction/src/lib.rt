@@ -26,13 +26,18 @@ fn not_above(day: u16, parts: u32, f: f64) -> u32
     if fraction(day, parts) <= f { 1 } else { 0 }
 }
 
-// The count that f is cut down to, or the next: rounding does not take a product past a whole number.
+// 2^52, and its bit pattern. From there up to 2^53 the floats are the whole numbers, and their patterns count on by one.
+const WHOLE: f64 = 4_503_599_627_370_496.0;
+
+const WHOLE_PATTERN: u64 = 4_841_369_599_423_283_200;
+
+// The count that f is cut down to, or the next: rounding takes neither the product nor the sum past a whole number.
 fn guess(day: u16, f: f64) -> u32
     requires { ⌜ (0 < day) × T (isFraction f) ⌝ }
     ensures { λ r. ⌜ NearCut day f r ⌝ }
 {
-    let product = f * day as f64;
-    std::num::truncating_f64_to_u64(product) as u32
+    let shifted = f * day as f64 + WHOLE;
+    (f64::to_bits(shifted) - WHOLE_PATTERN) as u32
 }
 
 // The largest count whose fraction is not above f is the one that f is cut down to, or the next. It is the one before the

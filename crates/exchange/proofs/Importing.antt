@@ -31,6 +31,10 @@ nan-settles : (inDay : ℕ) → None ≡ settledOf inDay nan
 unfolding le
 nan-settles inDay = below-zero inDay nan refl
 
+-- The bytes of the time as one number are the parts, with the filler above them.
+pub time-split : (s : List ℕ) → patternField s ≡ partsField s + 65_536 * fillerField s
+time-split s = omega arith
+
 module _ (inDay : ℕ) (s : List ℕ) where
   pub not-a-number : {bits : ℕ} → bits ≡ patternField s
       → 9_218_868_437_227_405_312 < bits % 9_223_372_036_854_775_808

@@ -52,7 +52,7 @@ fn fraction_row(in_day: u16, row: &[u8]) -> Imported
     requires { ⌜ 13 ≤ length (now row) ⌝ }
     ensures { λ r. ⌜ r ≡ fractionAnswer in_day (now (row .entry)) ⌝ }
 {
-    let bits = row::pattern(row);
+    let bits = row::time(row);
     if INFINITY < bits % SIGN {
         return Imported::Refused(TIME);
     }
@@ -64,10 +64,11 @@ fn parts_row(in_day: u16, row: &[u8]) -> Imported
     requires { ⌜ 13 ≤ length (now row) ⌝ }
     ensures { λ r. ⌜ r ≡ partsAnswer in_day (now (row .entry)) ⌝ }
 {
-    if row::filler(row) != 0 {
+    let time = row::time(row);
+    if 65_535 < time {
         return Imported::Refused(TIME);
     }
-    answer(in_day, row::day(row), Time::Parts(row::parts(row)))
+    answer(in_day, row::day(row), Time::Parts(time as u16))
 }
 
 // Imports a row by a system.

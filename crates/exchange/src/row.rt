@@ -1,14 +1,13 @@
 // A row of the list.
 ghost use mathlib.Core.Path.{_≡_};
 ghost use mathlib.Core.Bool.{not};
-ghost use Prim.Native.Nat.{_≤_, _<_, _^_};
+ghost use Prim.Native.Nat.{_≤_};
 ghost use lib.Dec.{T};
 ghost use lib.Ieee.{isNan};
 ghost use lib.ListN.{length};
-ghost use Rattle.exchange.specs.Row.{dayField, patternField, partsField, fillerField, rowOf};
+ghost use Rattle.exchange.specs.Row.{dayField, rowOf, ReadTime};
 use calendar::data::RegisterDay;
 use little_endian::bytes4;
-use little_endian::le16;
 use little_endian::le32;
 use little_endian::le64;
 
@@ -26,10 +25,10 @@ pub(crate) fn day(row: &[u8]) -> RegisterDay
     RegisterDay(le32(row[0], row[1], row[2], row[3]))
 }
 
-// The bit pattern of a fraction.
-pub(crate) fn pattern(row: &[u8]) -> u64
+// The eight bytes of the time, as one number.
+pub(crate) fn time(row: &[u8]) -> u64
     requires { ⌜ 13 ≤ length (now row) ⌝ }
-    ensures { λ r. ⌜ (r ≡ patternField (now (row .entry))) × (r < 2 ^ 64) ⌝ }
+    ensures { λ r. ⌜ ReadTime (now (row .entry)) r ⌝ }
 {
     le64(
         row[5],
@@ -41,21 +40,6 @@ pub(crate) fn pattern(row: &[u8]) -> u64
         row[11],
         row[12],
     )
-}
-
-// A count of parts, and what fills the bytes after it.
-pub(crate) fn parts(row: &[u8]) -> u16
-    requires { ⌜ 13 ≤ length (now row) ⌝ }
-    ensures { λ r. ⌜ r ≡ partsField (now (row .entry)) ⌝ }
-{
-    le16(row[5], row[6]) as u16
-}
-
-pub(crate) fn filler(row: &[u8]) -> u64
-    requires { ⌜ 13 ≤ length (now row) ⌝ }
-    ensures { λ r. ⌜ r ≡ fillerField (now (row .entry)) ⌝ }
-{
-    le16(row[7], row[8]) as u64 + 65_536 * le32(row[9], row[10], row[11], row[12]) as u64
 }
 
 // The row of a fraction.

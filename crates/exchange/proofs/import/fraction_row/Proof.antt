@@ -6,13 +6,13 @@ use borrow.Author.Needs.{needs}
 use Rattle.exchange.proofs.import.fraction_row.Statement.{statement}
 use Rattle.exchange.proofs.import.fraction_row.Tie as tie
 
-pattern-requires : tie.Need-pattern-requires
-pattern-requires c κs = search needs
+time-requires : tie.Need-time-requires
+time-requires c κs = search needs
 
 returns : tie.Need-returns
 returns c =
     let start = c .before .before .before in
-    not-a-number (start .args .in-day) (start .args .row .now) (c .before .pattern .ensures .0) (c .if1 .taken)
+    not-a-number (start .args .in-day) (start .args .row .now) (c .before .time .ensures .is-pattern) (c .if1 .taken)
 
 day-requires : tie.Need-day-requires
 day-requires c κs = search needs
@@ -28,9 +28,9 @@ returns-2 c =
     let day = c .before in
     let read = day .before .before in
     let start = read .before .before in
-    read-fraction (start .args .in-day) (start .args .row .now) (day .day .ensures) (read .pattern .ensures .0) (c .answer .ensures)
+    read-fraction (start .args .in-day) (start .args .row .now) (day .day .ensures) (read .time .ensures .is-pattern) (c .answer .ensures)
 
 pub fraction-row-spec : {M : Type 1} → statement M
 fraction-row-spec =
     tie.close
-    (tie.spec pattern-requires returns day-requires float-from-bits-t7 answer-requires returns-2)
+    (tie.spec time-requires returns day-requires float-from-bits-t7 answer-requires returns-2)
