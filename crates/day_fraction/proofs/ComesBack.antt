@@ -12,18 +12,11 @@ use lib.Ieee.Order.{round-mono}
 use lib.Ieee.Positive.{num, den, den-pos, through}
 use Rattle.day_fraction.specs.Fraction.{fractionOf}
 use Rattle.day_fraction.specs.Settling.{isFraction, notAbove, countOf}
-use Rattle.day_fraction.proofs.Sizes.{isSize, size-number, le→sizes, sizes→le}
+use Rattle.day_fraction.proofs.Sizes.{isSize, size-number, le→sizes, sizes→le, below-one}
 use Rattle.day_fraction.proofs.Rounding.{rounded, at-most, fraction-is}
 use Rattle.day_fraction.proofs.Exactness.{binary}
 use Rattle.day_fraction.proofs.Counts.{size, rises}
 use Rattle.day_fraction.proofs.Largest.{last-is}
-
-below-one : (x : Float) → T (isSize x) → num x < den x → T (lt x (fin false 1 (pos 0)))
-unfolding lt
-below-one nan s h = absurd s
-below-one (inf b) s h = absurd s
-below-one (fin false m e) s h = lt→ltb (m * up e * 1) (1 * 1 * down e) (omega arith)
-below-one (fin true m e) s h = lt→ltb 0 (m * up e * 1 + 1 * 1 * down e) (omega (arith, down-pos e))
 
 module _ (day : ℕ) (some : 0 < day) (few : day < 2 ^ 16) where
   is-rounded : (parts : ℕ) → parts ≤ day → fractionOf day parts ≡ rounded parts day

@@ -1,6 +1,8 @@
 -- Theorems on fractions of a day, and laws that serve several functions.
 -- The order of floats that are finite and not below zero.
 pub mod Sizes
+-- What is no fraction of a day.
+pub mod NoFractions
 -- Quotients rounded once.
 pub mod Rounding
 -- Fractions that a float is exactly.
@@ -15,3 +17,5 @@ pub mod Product
 pub mod Ends
 -- The exported fraction of a count settles to that count.
 pub mod ComesBack
+-- The count that the code finds.
+pub mod Counting

@@ -9,8 +9,8 @@ use lib.IntN.{pos, negsuc}
 use lib.Pow.{pow-pos, pow-mono, pow-add, shl-lt, shl-shr}
 use lib.Ieee.Digits.{size-lt, size-le}
 use native.Mathlib.Decide.{decLt}
-use borrow.Author.Tests.{lt-ltb}
-use lib.Ieee.{Float, nan, inf, fin, binary64, up, down, size, round, ofInt, mul, add, sum, fits, isNan, toBits}
+use borrow.Author.Tests.{lt-ltb, le-ltb}
+use lib.Ieee.{Float, nan, inf, fin, binary64, up, down, size, round, ofInt, neg, mul, add, sub, sum, fits, isNan, toBits}
 use lib.Ieee.Fits.{up-pos, down-pos, round-fits}
 use lib.Ieee.Exact.{HasValue, round-exact}
 use lib.Ieee.Positive.{num, den, den-pos}
@@ -141,12 +141,42 @@ whole-float (fin false zero (negsuc k)) t s least most = absurd (omega (arith, p
 whole-float (fin false (suc m) (negsuc k)) t s least most =
     absurd (omega (arith, digits false m (negsuc k) t .0, pow-mono {i = 1} {j = suc k} (omega arith)))
 
+-- With 2^52 taken off again it is a whole number as a float; and so it is with one more.
+taken-off : (y : Float) → T (isSize y) → den y ≡ 1 → 2 ^ 52 ≤ num y → sub binary64 y (fin false 1 (pos 52)) ≡ rounded (num y - 2 ^ 52) 1
+unfolding sub neg add sum
+taken-off nan s one least = absurd s
+taken-off (inf b) s one least = absurd s
+taken-off (fin true m e) s one least =
+    absurd (omega (arith, ap (λ i. i * up e) (eqb→eq m 0 s), zero-mul (up e)))
+taken-off (fin false m e) s one least =
+    simp (le-ltb (m * up e * 1) (2 ^ 52 * down e) (omega arith))
+    (alike (m * up e * 1 - 2 ^ 52 * down e) (down e * 1) (m * up e - 2 ^ 52) 1 (omega arith) (omega arith))
+
+one-more : (x : Float) (n : ℕ) → HasValue x false n 1 → add binary64 x (fin false 1 (pos 0)) ≡ rounded (n + 1) 1
+unfolding add sum
+one-more nan n v = absurd v
+one-more (inf b) n v = absurd v
+one-more (fin true m e) n v = absurd (true≢false (v .0))
+one-more (fin false m e) n v =
+    round-same binary64 false (m * up e * 1 + 1 * 1 * down e) (down e * 1) (n + 1) 1 (omega (arith, down-pos e)) (omega arith)
+    (omega (arith, v .1))
+
+-- The code's sum and its guess.
+abbrev pub sumOf : ℕ → Float → Float
+sumOf day f = add binary64 (mul binary64 f (ofInt binary64 (pos day))) (fin false 1 (pos 52))
+
+abbrev pub guessOf : ℕ → Float → ℕ
+guessOf day f = toBits binary64 (sumOf day f) - 1075 * 2 ^ 52
+
 module _ (day : ℕ) (f : Float) (some : 0 < day) (few : day < 2 ^ 16) (t : T (isFraction f)) where
   abbrev p : Float
   p = mul binary64 f (ofInt binary64 (pos day))
 
   abbrev q : Float
-  q = add binary64 p (fin false 1 (pos 52))
+  q = sumOf day f
+
+  abbrev guess : ℕ
+  guess = guessOf day f
 
   between : Between day f p
   unfolding ofInt
@@ -174,28 +204,49 @@ module _ (day : ℕ) (f : Float) (some : 0 < day) (few : day < 2 ^ 16) (t : T (i
         omega (arith, at-most a (den p) most 1 (den-pos p) (omega arith) sum-size (whole most (omega (arith, inside))) (omega (arith, between .most))),
       )
 
-  -- So its pattern counts on from that of 2^52.
-  pattern : (1075 * 2 ^ 52 + cutOf day f ≤ toBits binary64 q) × (toBits binary64 q ≤ 1075 * 2 ^ 52 + cutOf day f + 1)
-  pattern =
-      let y = rounded a (den p) in
-      let near = sum-between in
-      let is =
-      whole-float y (round-fits binary64 false a (den p)) sum-size (omega (arith, near .0, mul-le-mul-right {m = 2 ^ 52} {n = cutOf day f + 2 ^ 52} (den y) (omega arith)))
-      (omega (arith, near .1, den-pos y, mul-le-mul-right {m = cutOf day f + 1 + 2 ^ 52} {n = 2 ^ 53 - 1} (den y) (omega (arith, inside))))
-      in
+  -- So it is a whole number, and its pattern counts on from that of 2^52.
+  abbrev y : Float
+  y = rounded a (den p)
+
+  is-whole : (den y ≡ 1) × (toBits binary64 y ≡ 1074 * 2 ^ 52 + num y)
+  is-whole =
+      whole-float y (round-fits binary64 false a (den p)) sum-size
+      (omega (arith, sum-between .0, mul-le-mul-right {m = 2 ^ 52} {n = cutOf day f + 2 ^ 52} (den y) (omega arith)))
+      (omega (arith, sum-between .1, den-pos y, mul-le-mul-right {m = cutOf day f + 1 + 2 ^ 52} {n = 2 ^ 53 - 1} (den y) (omega (arith, inside))))
+
+  counts-on : (num y ≡ guess + 2 ^ 52) × (1075 * 2 ^ 52 ≤ toBits binary64 q) × NearCut day f guess
+  counts-on =
       let bits = ap (toBits binary64) is-sum in
-      let low = ap (λ d. (cutOf day f + 2 ^ 52) * d) (is .0) in
-      let high = ap (λ d. (cutOf day f + 1 + 2 ^ 52) * d) (is .0) in
-      (omega (arith, is .1, near .0), omega (arith, is .1, near .1))
+      let low = ap (λ d. (cutOf day f + 2 ^ 52) * d) (is-whole .0) in
+      let high = ap (λ d. (cutOf day f + 1 + 2 ^ 52) * d) (is-whole .0) in
+      let least = sum-between .0 in
+      let most = sum-between .1 in
+      let pattern = is-whole .1 in
+      (omega arith, omega arith, record { at-least = omega arith; at-most = omega arith })
 
   pub sum-number : T (not (isNan q))
-  sum-number = subst (λ x. T (not (isNan x))) (sym is-sum) (size-number (rounded a (den p)) sum-size)
+  sum-number = subst (λ x. T (not (isNan x))) (sym is-sum) (size-number y sum-size)
 
   pub pattern-least : 1075 * 2 ^ 52 ≤ toBits binary64 q
-  pattern-least = omega (arith, pattern .0)
+  pattern-least = counts-on .1
 
-  pub guess-small : toBits binary64 q - 1075 * 2 ^ 52 < 2 ^ 32
-  guess-small = omega (arith, pattern .1, inside)
+  pub near : NearCut day f guess
+  near = counts-on .2
 
-  pub near : NearCut day f (toBits binary64 q - 1075 * 2 ^ 52)
-  near = record { at-least = omega (arith, pattern .0); at-most = omega (arith, pattern .1) }
+  pub guess-small : guess < 2 ^ 32
+  guess-small = omega (arith, near .at-most, inside)
+
+  -- The guess as a float, and the next.
+  pub guess-float : sub binary64 q (fin false 1 (pos 52)) ≡ ofInt binary64 (pos guess)
+  unfolding ofInt
+  guess-float =
+      let left : num y - 2 ^ 52 ≡ guess = omega (arith, counts-on .0) in
+      ap (λ x. sub binary64 x (fin false 1 (pos 52))) is-sum
+      ∙ taken-off y sum-size (is-whole .0) (omega (arith, counts-on .0))
+      ∙ ap (λ n. rounded n 1) left
+
+  pub next-float : add binary64 (sub binary64 q (fin false 1 (pos 52))) (fin false 1 (pos 0)) ≡ ofInt binary64 (pos (guess + 1))
+  unfolding ofInt
+  next-float =
+      ap (λ x. add binary64 x (fin false 1 (pos 0))) guess-float
+      ∙ one-more (rounded guess 1) guess (whole guess (omega (arith, guess-small)))

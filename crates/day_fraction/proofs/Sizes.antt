@@ -119,3 +119,11 @@ fraction-size (fin true (suc m) e) t =
     let level = and-l (eqb a b && eqb a 0) (lt (fin true (suc m) e) (fin false 1 (pos 0))) t in
     let same = eqb→eq a b (and-l (eqb a b) (eqb a 0) level) in
     absurd (omega (arith, zero-mul (down e), mul-pos {m = suc m} {n = up e} (omega arith) (up-pos e)))
+
+-- And what is one of them and below one.
+pub below-one : (x : Float) → T (isSize x) → num x < den x → T (lt x (fin false 1 (pos 0)))
+unfolding lt
+below-one nan s h = absurd s
+below-one (inf b) s h = absurd s
+below-one (fin false m e) s h = lt→ltb (m * up e * 1) (1 * 1 * down e) (omega arith)
+below-one (fin true m e) s h = lt→ltb 0 (m * up e * 1 + 1 * 1 * down e) (omega (arith, down-pos e))

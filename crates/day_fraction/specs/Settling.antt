@@ -1,9 +1,11 @@
 -- The count of parts that a fraction of a day settles to: paper 02, Q-11.
 use Prim.Native.Nat.{ℕ, zero, suc, _<_}
+use mathlib.Core.Path.{_≡_}
+use mathlib.Core.Logic.{_⊎_}
 use mathlib.Core.Bool.{Bool, false, cond, _&&_}
 use lib.Dec.{T, ltb}
 use lib.IntN.{pos}
-use lib.Ieee.{Float, fin, le, lt}
+use lib.Ieee.{Float, nan, fin, le, lt}
 use Rattle.day_fraction.specs.declared.Settled.{Settled}
 use Rattle.day_fraction.specs.declared.Settled.the-variants.{None, Count}
 use Rattle.day_fraction.specs.Fraction.{fractionOf}
@@ -11,6 +13,10 @@ use Rattle.day_fraction.specs.Fraction.{fractionOf}
 -- A fraction of a day is not below zero, and below one. Negative zero is not below zero; what is no number is neither.
 unfoldable pub isFraction : Float → Bool
 isFraction f = le (fin false 0 (pos 0)) f && lt f (fin false 1 (pos 0))
+
+-- "A fraction that is not a number, below zero or not below one" is none.
+abbrev pub NoFraction : Float → Type 0
+NoFraction f = (f ≡ nan) ⊎ T (lt f (fin false 0 (pos 0))) ⊎ T (le (fin false 1 (pos 0)) f)
 
 -- The exported fraction of a count is not above f.
 abbrev pub notAbove : ℕ → Float → ℕ → Bool

@@ -2,9 +2,10 @@
 ghost use mathlib.Core.Path.{_≡_};
 ghost use Prim.Native.Nat.{_<_};
 ghost use lib.Dec.{T};
+ghost use lib.Ieee.{binary64, div, le};
 ghost use Rattle.day_fraction.specs.Fraction.{fractionOf};
-ghost use Rattle.day_fraction.specs.Settling.{isFraction, notAbove, countOf, settledOf};
-ghost use Rattle.day_fraction.specs.Guess.{bit, NearCut};
+ghost use Rattle.day_fraction.specs.Settling.{isFraction, countOf, settledOf};
+ghost use Rattle.day_fraction.specs.Guess.{bit};
 
 // The count of parts that a time settles to; none where it is no time of the day.
 pub enum Settled {
@@ -19,11 +20,11 @@ pub fn fraction(day: u16, parts: u32) -> f64
     parts as f64 / day as f64
 }
 
-// 1 where the fraction of a count is not above f, and 0 where it is.
-fn not_above(day: u16, parts: u32, f: f64) -> u32
-    ensures { λ r. ⌜ r ≡ bit (notAbove day f parts) ⌝ }
+// 1 where a quotient is not above f, and 0 where it is.
+fn not_above(parts: f64, day: f64, f: f64) -> u32
+    ensures { λ r. ⌜ r ≡ bit (le (div binary64 parts day) f) ⌝ }
 {
-    if fraction(day, parts) <= f { 1 } else { 0 }
+    if parts / day <= f { 1 } else { 0 }
 }
 
 // 2^52, and its bit pattern. From there up to 2^53 the floats are the whole numbers, and their patterns count on by one.
@@ -31,24 +32,19 @@ const WHOLE: f64 = 4_503_599_627_370_496.0;
 
 const WHOLE_PATTERN: u64 = 4_841_369_599_423_283_200;
 
-// The count that f is cut down to, or the next: rounding takes neither the product nor the sum past a whole number.
-fn guess(day: u16, f: f64) -> u32
-    requires { ⌜ (0 < day) × T (isFraction f) ⌝ }
-    ensures { λ r. ⌜ NearCut day f r ⌝ }
-{
-    let shifted = f * day as f64 + WHOLE;
-    (f64::to_bits(shifted) - WHOLE_PATTERN) as u32
-}
-
-// The largest count whose fraction is not above f is the one that f is cut down to, or the next. It is the one before the
-// guess, and one more for each that passes of the guess and the next.
+// The largest count whose fraction is not above f is the one that f is cut down to, or the next; and so is the guess, since
+// rounding takes neither the product nor the sum past a whole number. So it is the count before the guess, and one more
+// for each that passes of the guess and the next. The guess is had as a float, too, by a difference that is exact.
 fn count(day: u16, f: f64) -> u16
     requires { ⌜ (0 < day) × T (isFraction f) ⌝ }
     ensures { λ r. ⌜ r ≡ countOf day f ⌝ }
 {
-    let guess = guess(day, f);
-    let at_guess = not_above(day, guess, f);
-    let after_guess = not_above(day, guess + 1, f);
+    let all = day as f64;
+    let shifted = f * all + WHOLE;
+    let guess = (f64::to_bits(shifted) - WHOLE_PATTERN) as u32;
+    let parts = shifted - WHOLE;
+    let at_guess = not_above(parts, all, f);
+    let after_guess = not_above(parts + 1.0, all, f);
     (guess + at_guess + after_guess - 1) as u16
 }
 

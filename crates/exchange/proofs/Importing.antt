@@ -1,11 +1,13 @@
 -- What an import answers, by the tests of the code.
-use Prim.Native.Nat.{ℕ, _+_, _*_, _%_, _^_, _≤_, _<_}
+use Prim.Native.Nat.{ℕ, _+_, _*_, _^_, _≤_, _<_}
 use mathlib.Core.Path.{_≡_, refl, sym, ap, ap₂, _∙_}
+use mathlib.Core.Bool.{false, not}
 use mathlib.Core.List.{List}
+use native.Mathlib.Decide.{decLt}
 use lib.ListN.{length}
 use native.Mathlib.Omega.{arith}
 use borrow.Author.Tests.{lt-ltb, le-ltb, eq-eqb, ne-eqb}
-use lib.Ieee.{nan, binary64, ofBits, le}
+use lib.Ieee.{nan, binary64, nanBits, ofBits, le}
 use Rattle.calendar.specs.declared.data.RegisterDay.{RegisterDay}
 use Rattle.reckoning.specs.RefusalNumbers.{KIND, LENGTH, SYSTEM, TIME}
 use Rattle.day_fraction.specs.declared.Settled.the-variants.{None, Count}
@@ -16,7 +18,7 @@ use Rattle.day_fraction.proofs.Ends.{below-zero}
 use Rattle.exchange.specs.declared.data.Imported.{Imported}
 use Rattle.exchange.specs.declared.data.Imported.the-variants.{Refused, Row}
 use Rattle.exchange.specs.Systems.{partsInDay}
-use Rattle.exchange.specs.Row.{dayField, tagField, patternField, partsField, fillerField}
+use Rattle.exchange.specs.Row.{dayField, tagField, patternField, partsField, fillerField, ReadTime}
 use Rattle.exchange.specs.Import.{settledTime, answerOf, answerWith, fractionAnswer, partsAnswer, importOf, tagOf, importAnswer}
 use Rattle.exchange.proofs.Patterns.{no-number}
 
@@ -37,7 +39,7 @@ time-split s = omega arith
 
 module _ (inDay : ℕ) (s : List ℕ) where
   pub not-a-number : {bits : ℕ} → bits ≡ patternField s
-      → 9_218_868_437_227_405_312 < bits % 9_223_372_036_854_775_808
+      → not (nanBits binary64 bits) ≡ false
       → Refused TIME ≡ fractionAnswer inDay s
   not-a-number {bits} is h =
       ap (answerWith (dayField s) (Fraction nan)) (nan-settles inDay)
@@ -47,13 +49,20 @@ module _ (inDay : ℕ) (s : List ℕ) where
       → v ≡ answerOf inDay r (Fraction (ofBits binary64 bits)) → v ≡ fractionAnswer inDay s
   read-fraction day pattern is = is ∙ ap₂ (λ r b. answerOf inDay r (Fraction (ofBits binary64 b))) day pattern
 
-  pub filled : (fillerField s ≡ 0 → ⊥) → Refused TIME ≡ partsAnswer inDay s
-  filled some = simp (ne-eqb (fillerField s) 0 some)
-
   pub read-parts : {r parts : ℕ} {v : Imported} → fillerField s ≡ 0 → r ≡ dayField s → parts ≡ partsField s
       → v ≡ answerOf inDay r (Parts parts) → v ≡ partsAnswer inDay s
   read-parts none day field is =
       is ∙ ap₂ (λ r n. answerOf inDay r (Parts n)) day field ∙ simp (eq-eqb (fillerField s) 0 none)
+
+  pub not-below : {time : ℕ} → ReadTime s time → inDay ≤ time → Refused TIME ≡ partsAnswer inDay s
+  not-below {time} read h =
+      elim (decLt 0 (fillerField s)) [
+        | yes some ↦ simp (ne-eqb (fillerField s) 0 (λ z. omega arith))
+        | no none ↦
+            let zero : fillerField s ≡ 0 = omega arith in
+            let past : inDay ≤ partsField s = omega (arith, time-split s, read .is-pattern) in
+            simp (eq-eqb (fillerField s) 0 zero, le-ltb (partsField s) inDay past)
+      ]
 
 module _ (system : ℕ) (s : List ℕ) where
   pub wrong-length : (length s ≡ 13 → ⊥) → Refused LENGTH ≡ importOf system s

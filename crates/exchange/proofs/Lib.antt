@@ -7,3 +7,9 @@ pub mod Patterns
 pub mod Importing
 -- What an export answers and writes, by the tests of the code.
 pub mod Exporting
+-- Every export ends as the paper says.
+pub mod ExportRight
+-- Every import ends as the paper says.
+pub mod ImportRight
+-- An exported row comes back.
+pub mod RowsBack

@@ -4,11 +4,12 @@ use mathlib.Core.Path.{_≡_, refl, sym, ap, subst, _∙_}
 use mathlib.Core.Bool.{true, false, true≢false, not}
 use mathlib.Core.List.{List, [], _∷_}
 use native.Mathlib.Omega.{arith}
-use lib.Dec.{T, ltb}
+use native.Mathlib.Decide.{decLt}
+use lib.Dec.{T, leb}
 use lib.ListN.{getD}
 use lib.Ieee.{Float, nan, inf, fin, binary64, fits, isNan, nanBits, ofBits, toBits}
 use lib.Ieee.Bits.{toBits-lt, nanBits-is, nanBits-above}
-use borrow.Author.Tests.{lt-ltb, le-ltb}
+use borrow.Author.Tests.{lt-ltb, le-ltb, lt-leb, le-leb, not-false}
 use Rattle.little_endian.specs.Number.{bytes4}
 use Rattle.exchange.specs.Row.{rowOf}
 
@@ -20,11 +21,17 @@ nan-is (fin b m x) e = absurd (true≢false (sym e))
 
 -- Without its sign, a pattern above that of infinity is not a number, and any other is one.
 module _ (bits : ℕ) where
-  pub no-number : 9_218_868_437_227_405_312 < bits % 9_223_372_036_854_775_808 → ofBits binary64 bits ≡ nan
-  no-number h = nan-is (ofBits binary64 bits) (sym (nanBits-is binary64 bits) ∙ nanBits-above binary64 bits ∙ lt-ltb _ _ h)
+  pub no-number : not (nanBits binary64 bits) ≡ false → ofBits binary64 bits ≡ nan
+  no-number e = nan-is (ofBits binary64 bits) (sym (nanBits-is binary64 bits) ∙ not-false (nanBits binary64 bits) e)
 
-  pub number : bits % 9_223_372_036_854_775_808 ≤ 9_218_868_437_227_405_312 → T (not (nanBits binary64 bits))
-  number h = simp (nanBits-above binary64 bits, le-ltb (9_218_868_437_227_405_312) (bits % 9_223_372_036_854_775_808) h) tt
+  pub not-above-infinity : leb (bits % 9_223_372_036_854_775_808) 9_218_868_437_227_405_312 ≡ not (nanBits binary64 bits)
+  not-above-infinity =
+      elim (decLt 9_218_868_437_227_405_312 (bits % 9_223_372_036_854_775_808)) [
+        | yes h ↦ lt-leb _ _ h ∙ sym (ap not (nanBits-above binary64 bits ∙ lt-ltb _ _ h))
+        | no h ↦
+            let l : bits % 9_223_372_036_854_775_808 ≤ 9_218_868_437_227_405_312 = omega arith in
+            le-leb _ _ l ∙ sym (ap not (nanBits-above binary64 bits ∙ le-ltb _ _ l))
+      ]
 
 pub pattern-fits : (f : Float) → fits binary64 f ≡ true → toBits binary64 f < 2 ^ 64
 pattern-fits f e = toBits-lt binary64 f (subst T (sym e) tt)

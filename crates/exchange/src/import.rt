@@ -1,7 +1,9 @@
 // The import of a row.
 ghost use mathlib.Core.Path.{_≡_};
 ghost use Prim.Native.Nat.{_≤_};
+ghost use mathlib.Core.Bool.{not};
 ghost use lib.ListN.{length};
+ghost use lib.Ieee.{binary64, nanBits};
 ghost use Rattle.exchange.specs.Import.{settledTime, answerOf, fractionAnswer, partsAnswer, importOf, tagOf, importAnswer};
 use crate::data::Imported;
 use crate::data::Time;
@@ -42,10 +44,16 @@ fn answer(in_day: u16, day: RegisterDay, time: Time) -> Imported
     }
 }
 
-// The sign is the highest bit. Without it, a pattern above that of infinity is not a number.
+// The bit pattern of infinity, and the bit of the sign. Without it, a pattern above that of infinity is not a number.
+const INFINITY: u64 = 9_218_868_437_227_405_312;
+
 const SIGN: u64 = 9_223_372_036_854_775_808;
 
-const INFINITY: u64 = 9_218_868_437_227_405_312;
+fn is_number(bits: u64) -> bool
+    ensures { λ r. ⌜ r ≡ not (nanBits binary64 bits) ⌝ }
+{
+    bits % SIGN <= INFINITY
+}
 
 // A row whose time is a fraction.
 fn fraction_row(in_day: u16, row: &[u8]) -> Imported
@@ -53,22 +61,23 @@ fn fraction_row(in_day: u16, row: &[u8]) -> Imported
     ensures { λ r. ⌜ r ≡ fractionAnswer in_day (now (row .entry)) ⌝ }
 {
     let bits = row::time(row);
-    if INFINITY < bits % SIGN {
-        return Imported::Refused(TIME);
+    if is_number(bits) {
+        return answer(in_day, row::day(row), Time::Fraction(f64::from_bits(bits)));
     }
-    answer(in_day, row::day(row), Time::Fraction(f64::from_bits(bits)))
+    Imported::Refused(TIME)
 }
 
-// A row whose time is a count of parts, in the first two of its bytes; the others are to be zero.
+// A row whose time is a count of parts, in the first two of its bytes; the others are to be zero. Where one is not, the
+// time as one number is above any count.
 fn parts_row(in_day: u16, row: &[u8]) -> Imported
     requires { ⌜ 13 ≤ length (now row) ⌝ }
     ensures { λ r. ⌜ r ≡ partsAnswer in_day (now (row .entry)) ⌝ }
 {
     let time = row::time(row);
-    if 65_535 < time {
-        return Imported::Refused(TIME);
+    if time < in_day as u64 {
+        return answer(in_day, row::day(row), Time::Parts(time as u16));
     }
-    answer(in_day, row::day(row), Time::Parts(time as u16))
+    Imported::Refused(TIME)
 }
 
 // Imports a row by a system.

@@ -1,0 +1,64 @@
+-- What is no fraction of a day: not a number, below zero, or not below one.
+use Prim.Native.Nat.{ℕ, zero, suc, _+_, _*_, _≤_, _<_}
+use mathlib.Core.Path.{_≡_, refl, sym, ap, subst}
+use mathlib.Core.Logic.{inl, inr, ⊎-elim}
+use mathlib.Core.Bool.{true, false}
+use native.Mathlib.Nat.{zero-mul, mul-pos}
+use native.Mathlib.Omega.{arith}
+use native.Mathlib.Decide.{decLt}
+use lib.Dec.{T, eqb→eq, lt→ltb, ltb→lt}
+use lib.IntN.{pos}
+use lib.Ieee.{Float, nan, inf, fin, up, down, le, lt}
+use lib.Ieee.Fits.{up-pos, down-pos, and-i}
+use lib.Ieee.Positive.{num, den}
+use Rattle.day_fraction.specs.Settling.{isFraction, NoFraction}
+use Rattle.day_fraction.proofs.Sizes.{isSize, le→sizes, sizes→le, fraction-size, below-one}
+
+no-nan : T (isFraction nan) → ⊥
+unfolding isFraction le
+no-nan t = t
+
+below-zero : (f : Float) → T (isSize f) → T (lt f (fin false 0 (pos 0))) → ⊥
+unfolding lt
+below-zero nan s h = s
+below-zero (inf b) s h = s
+below-zero (fin false m e) s h = omega (arith, ltb→lt (m * up e * 1) (0 * 1 * down e) h, zero-mul (down e))
+below-zero (fin true m e) s h =
+    omega (arith, ltb→lt 0 (m * up e * 1 + 0 * 1 * down e) h, ap (λ i. i * up e) (eqb→eq m 0 s), zero-mul (up e), zero-mul (down e))
+
+-- A float is a fraction of a day, or one of those.
+pub by-fraction : {P : Type 0} (f : Float) → (T (isFraction f) → P) → (NoFraction f → P) → P
+unfolding isFraction le lt
+by-fraction nan is isnt = isnt (inl refl)
+by-fraction (inf true) is isnt = isnt (inr (inl tt))
+by-fraction (inf false) is isnt = isnt (inr (inr tt))
+by-fraction (fin true zero e) is isnt =
+    let f = fin true zero e in
+    is
+    (and-i (le (fin false 0 (pos 0)) f) (lt f (fin false 1 (pos 0)))
+    (sizes→le (fin false 0 (pos 0)) f tt tt (omega (arith, zero-mul (down e))))
+    (below-one f tt (omega (arith, zero-mul (up e), down-pos e))))
+by-fraction (fin true (suc m) e) is isnt =
+    isnt
+    (inr (inl (lt→ltb 0 (suc m * up e * 1 + 0 * 1 * down e) (omega (arith, mul-pos {m = suc m} {n = up e} (omega arith) (up-pos e))))))
+by-fraction (fin false m e) is isnt =
+    let f = fin false m e in
+    elim (decLt (m * up e) (down e)) [
+      | yes h ↦
+          is
+          (and-i (le (fin false 0 (pos 0)) f) (lt f (fin false 1 (pos 0)))
+          (sizes→le (fin false 0 (pos 0)) f tt tt (omega (arith, zero-mul (down e))))
+          (below-one f tt h))
+      | no h ↦ isnt (inr (inr (sizes→le (fin false 1 (pos 0)) f tt tt (omega arith))))
+    ]
+
+-- Nothing is both.
+pub never-both : (f : Float) → T (isFraction f) → NoFraction f → ⊥
+never-both f t none =
+    ⊎-elim
+    (λ is. no-nan (subst (λ x. T (isFraction x)) is t))
+    (λ other. ⊎-elim (below-zero f (fraction-size f t .0)) (λ h. from-one (fraction-size f t) h) other)
+    none
+  where
+    from-one : T (isSize f) × (num f < den f) → T (le (fin false 1 (pos 0)) f) → ⊥
+    from-one s h = omega (arith, s .1, le→sizes (fin false 1 (pos 0)) f tt (s .0) h)

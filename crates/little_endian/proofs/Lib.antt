@@ -1,0 +1,3 @@
+-- Laws on numbers as bytes.
+-- A number read from its own bytes.
+pub mod ReadBack
