@@ -19,3 +19,5 @@ pub mod Ends
 pub mod ComesBack
 -- The count that the code finds.
 pub mod Counting
+-- Fractions and counts, computed.
+pub mod Examples

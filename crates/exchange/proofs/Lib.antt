@@ -13,3 +13,5 @@ pub mod ExportRight
 pub mod ImportRight
 -- An exported row comes back.
 pub mod RowsBack
+-- Rows and answers, computed.
+pub mod Examples
