@@ -16,15 +16,16 @@ library = build/libchiselbrow.a
 shared = build/libchiselbrow.so.$(version)
 soname = libchiselbrow.so.$(firstword $(subst ., ,$(version)))
 programs = build/chiselbrow build/chiselbrow-renew build/almanac
+hosts = build/store build/rows
 # The toolchain's own C code, beside rt: what the programs call of the system.
 system := $(dir $(shell readlink -f "$$(command -v rt)"))../lib/libos_c.a
-test_tools = build/independent build/store_check build/convert_check build/null_check build/builders build/incident \
-             build/feed build/faults.so
-bench_tools = build/bench build/bench_heads build/c_program build/c_renew build/c_compare build/c_pentads \
+test_tools = build/independent build/store_check build/convert_check build/exchange_check build/null_check build/builders \
+             build/incident build/feed build/faults.so
+bench_tools = build/bench build/bench_exchange build/bench_heads build/c_program build/c_renew build/c_compare build/c_pentads \
               build/c_submerged
 # The longest first, so that two at a time end together.
 tests = tests/mixups.sh tests/program.sh tests/every_day.sh tests/convert.sh tests/renew.sh tests/every_year.sh \
-        tests/pipes.sh tests/damaged.sh tests/every_comparison.sh tests/every_submerged.sh tests/every_pentad.sh \
+        tests/pipes.sh tests/damaged.sh tests/exchange.sh tests/every_comparison.sh tests/every_submerged.sh tests/every_pentad.sh \
         tests/faults.sh tests/cases.sh tests/descriptors.sh tests/arguments.sh tests/manual.sh tests/install.sh \
         tests/shared.sh tests/shared.py tests/header.sh tests/host.sh tests/printed_heads.sh build/null_check \
         build/builders build/incident
@@ -37,9 +38,9 @@ MAKEFLAGS += --no-print-directory
 
 .PHONY: all test-tools test bench sky run install clean
 
-# The programs, the library as an archive and shared, and the example host. What they stand on comes first: it is proved
+# The programs, the library as an archive and shared, and the example hosts. What they stand on comes first: it is proved
 # on all cores at once, and an archive's own crate by itself.
-all: build/proved $(programs) $(library) $(shared) build/store
+all: build/proved $(programs) $(library) $(shared) $(hosts)
 
 # What only the tests need.
 test-tools: $(test_tools)
@@ -49,7 +50,7 @@ test: all test-tools
 	@printf '%s\n' $(tests) | xargs -P 2 -I % sh -c '% || { echo "% failed" >&2; exit 255; }'
 	@rt ci
 
-# The storing step, the conversion, heads and the programs, beside C written by hand.
+# The storing step, the conversion, the exchange, heads and the programs, beside C written by hand.
 bench: all $(bench_tools)
 	@bench/run.sh
 
@@ -94,7 +95,7 @@ build:
 # What the runs of the programs stand on.
 build/proved: $(crates) | build
 	@echo "proving the libraries (what the prover says: build/proved.log)"
-	@rt check lines conversion pages comparison_pages submerged_extinguished_pages arguments process \
+	@rt check lines conversion exchange pages comparison_pages submerged_extinguished_pages arguments process \
 	    < /dev/null > build/proved.log 2>&1 || { cat build/proved.log >&2; exit 1; }
 	@touch $@
 
@@ -104,9 +105,10 @@ build/lib%.a: $(crates) | build
 	@rt staticlib $* < /dev/null > build/$*.log 2>&1 || { cat build/$*.log >&2; exit 1; }
 	@cp target/staticlib/lib$*.a $@
 
-# The storing step and the conversion, each an object.
-$(library): build/libcitation.a build/libconversion.a
-	cd build && ar x libcitation.a && ar x libconversion.a && ar rcs $(notdir $@) citation.o conversion.o
+# The storing step, the conversion and the exchange, each an object.
+objects = citation conversion exchange
+$(library): $(objects:%=build/lib%.a)
+	cd build && for object in $(objects); do ar x lib$$object.a || exit 1; done && ar rcs $(notdir $@) $(objects:%=%.o)
 
 # It needs no other library, and exports what the list says. The links are those that install makes.
 $(shared): $(library) chiselbrow.map include/chiselbrow.h
@@ -122,7 +124,7 @@ build/almanac: build/libalmanac_run.a
 $(programs): build/%: cli/%.c include/chiselbrow.h
 	$(CC) $(CFLAGS) -Iinclude -o $@ $(filter %.c,$^) $(filter %.a,$^) $(system)
 
-build/store: examples/store.c include/chiselbrow.h $(library)
+$(hosts): build/%: examples/%.c include/chiselbrow.h $(library)
 	$(CC) $(CFLAGS) -Iinclude -o $@ $< $(library)
 
 build/independent: $(wildcard tests/independent/*.rs) | build
@@ -131,10 +133,12 @@ build/independent: $(wildcard tests/independent/*.rs) | build
 build/null_check: tests/null.c include/chiselbrow.h $(library)
 	$(CC) $(CFLAGS) -Iinclude -o $@ $< $(library)
 
-build/store_check build/convert_check build/builders build/incident: build/%: tests/%.c include/chiselbrow.h $(library)
+frame_checks = build/store_check build/convert_check build/exchange_check
+
+$(frame_checks) build/builders build/incident: build/%: tests/%.c include/chiselbrow.h $(library)
 	$(CC) $(CFLAGS) -Iinclude -o $@ $< $(library)
 
-build/store_check build/convert_check: tests/frames.h
+$(frame_checks): tests/frames.h
 
 build/feed: tests/feed.c | build
 	$(CC) $(CFLAGS) -o $@ $<
@@ -147,6 +151,10 @@ bench_common = bench/timing.c bench/random.c
 build/bench: bench/bench.c bench/records.c bench/c_store.c bench/c_convert.c $(bench_common) $(wildcard bench/*.h) \
              include/chiselbrow.h $(library) build/from_page.a
 	$(CC) $(CFLAGS) -Iinclude -o $@ $(filter %.c,$^) $(filter %.a,$^)
+
+build/bench_exchange: bench/bench_exchange.c bench/c_exchange.c $(bench_common) $(wildcard bench/*.h) \
+                      include/chiselbrow.h $(library)
+	$(CC) $(CFLAGS) -Iinclude -o $@ $(filter %.c,$^) $(library)
 
 build/bench_heads: bench/bench_heads.c bench/c_heads.c $(bench_common) $(wildcard bench/*.h) build/libbench_heads.a
 	$(CC) $(CFLAGS) -o $@ $(filter %.c,$^) $(filter %.a,$^)

@@ -1,7 +1,7 @@
 #!/usr/bin/env bash
 # Runs all measurements on what make has built: nanoseconds a record for the
-# storing step and the conversion, nanoseconds a head for years' heads, records a
-# second for chiselbrow and chiselbrow-renew, nanoseconds a year or a day for the
+# storing step and the conversion, nanoseconds a row for the exchange, nanoseconds
+# a head for years' heads, records a second for chiselbrow and chiselbrow-renew, nanoseconds a year or a day for the
 # almanac, and at the end the ratios by themselves: to C's time, or to that of
 # what stands after a slash.
 
@@ -10,6 +10,7 @@ cd "$(dirname "$0")/.."
 
 {
     build/bench
+    build/bench_exchange
     build/bench_heads
     bench/bench_program.sh build/chiselbrow build/c_program
     bench/bench_renew.sh build/chiselbrow-renew build/c_renew

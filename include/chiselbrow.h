@@ -39,8 +39,8 @@
  * Link with -lchiselbrow; nothing else is needed. The library is an archive
  * and a shared library. The linker takes the shared one, which the loader has
  * to find when the host is run; -Wl,-Bstatic -lchiselbrow -Wl,-Bdynamic takes
- * the archive. Both export chiselbrow_store and chiselbrow_convert, and all
- * else is defined here.
+ * the archive. Both export chiselbrow_store, chiselbrow_convert,
+ * chiselbrow_export and chiselbrow_import, and all else is defined here.
  *
  *
  * WORDS
@@ -152,8 +152,9 @@
  *         day bears another
  *     8   the output is shorter than 10 bytes
  *
- * Refusal 9 is of requests that are not made from C. Later versions can have
- * other numbers: take any but CHISELBROW_ACCEPTED as a refusal.
+ * Refusal 9 is of requests that are not made from C, and 12 of rows; see ROWS.
+ * Later versions can have other numbers: take any but CHISELBROW_ACCEPTED as a
+ * refusal.
  *
  *
  * OLD RECORDS
@@ -186,6 +187,32 @@
  * if it still counts from 0, it cites the day before by chiselbrow_cite_name, or
  * none. And CHISELBROW_KIND_NAME is 5: old records are of
  * CHISELBROW_KIND_RETIRED.
+ *
+ *
+ * ROWS
+ *
+ * The observatory's list has rows of 13 bytes, each a register day with a time
+ * of that day. Numbers have the low byte first:
+ *
+ *     bytes 0 to 3    register day
+ *     byte 4          tag, which tells how the time is written
+ *     bytes 5 to 12   tag 1: the fraction of the day that has gone, from 0 up
+ *                     to, not including, 1: a 64-bit float (IEEE 754)
+ *                     tag 2: in bytes 5 and 6 a count of whole parts of the
+ *                     day, and then six zero bytes
+ *
+ * Which parts they are the row does not say. A day has 12030 of them by Guantian
+ * and 7290 by Jiyuan, so that the system is told with the row. Jingchu has no
+ * exchange. The same time by Guantian, with either tag:
+ *
+ *     68 5C 20 00 01 00 00 00 00 00 00 E0 3F    day 2120808, half of it
+ *     68 5C 20 00 02 7F 17 00 00 00 00 00 00    day 2120808, 6015 parts
+ *
+ * chiselbrow_export writes rows, always with tag 1. The fraction of a count is
+ * one division by the parts of the day, rounded once. chiselbrow_import reads
+ * rows with either tag, and settles a fraction to a count: to the largest whose
+ * own fraction is not above it. So every fraction that was exported comes back
+ * as the count that it was made from, and any other one is cut down.
  */
 
 #ifndef CHISELBROW_H
@@ -207,13 +234,13 @@
  * has to be built anew; OLD RECORDS, above, tells what else it has to see to.
  * The calendars are those of 1.2, and what 1.2 stored stands as it is. So does
  * what 1.1 stored, since 1.2 only added Jingchu. */
-#define CHISELBROW_VERSION "2.0.3"
+#define CHISELBROW_VERSION "2.0.4"
 
 #ifdef __cplusplus
 extern "C" {
 #endif
 
-/* Byte 4 of a record. */
+/* Byte 4 of a record, and the system that a row is exported or imported by. */
 enum {
     CHISELBROW_GUANTIAN = 1,
     CHISELBROW_JIYUAN = 2,
@@ -242,8 +269,20 @@ enum {
     CHISELBROW_CITATION_ROOM = 10
 };
 
-/* What chiselbrow_refusal gives: the table above, and that of
- * chiselbrow_convert. */
+/* Bytes in a row of the observatory's list, which is also the room that the
+ * output of chiselbrow_export needs. */
+enum {
+    CHISELBROW_ROW_SIZE = 13
+};
+
+/* Byte 4 of a row: how its time came. */
+enum {
+    CHISELBROW_TAG_FRACTION = 1,
+    CHISELBROW_TAG_PARTS = 2
+};
+
+/* What chiselbrow_refusal gives: the table above, and those of
+ * chiselbrow_convert, chiselbrow_export and chiselbrow_import. */
 enum {
     CHISELBROW_ACCEPTED = 0,
     CHISELBROW_REFUSED_SHORT = 1,
@@ -255,7 +294,8 @@ enum {
     CHISELBROW_REFUSED_DAY = 7,
     CHISELBROW_REFUSED_OUTPUT = 8,
     CHISELBROW_REFUSED_LEAP = 10,
-    CHISELBROW_REFUSED_RETIRED = 11
+    CHISELBROW_REFUSED_RETIRED = 11,
+    CHISELBROW_REFUSED_TIME = 12
 };
 
 /* Stores one citation.
@@ -286,22 +326,24 @@ enum {
 uint64_t chiselbrow_store(const uint8_t *input, size_t input_len,
                           uint8_t *output, size_t output_len);
 
-/* The register day in an answer; 0 when refused. Answers of chiselbrow_convert
- * have none, and give 0. */
+/* The register day in an answer of chiselbrow_store or chiselbrow_import; 0 when
+ * refused. Answers of chiselbrow_convert have none, and give 0; those of
+ * chiselbrow_export have none either, see chiselbrow_units_cut. */
 static inline uint32_t chiselbrow_day(uint64_t answer)
 {
     return (uint32_t)(answer & 0xFFFFFFFFu);
 }
 
-/* The refusal number in an answer; CHISELBROW_ACCEPTED when stored or
- * converted. */
+/* The refusal number in an answer of any function; CHISELBROW_ACCEPTED when
+ * stored, converted, exported or imported. */
 static inline unsigned chiselbrow_refusal(uint64_t answer)
 {
     return (unsigned)(answer >> 32 & 0xFFu);
 }
 
 /* With CHISELBROW_REFUSED_LEAP, the number of the leap month that the cited
- * year has, 1 to 12, or 0 if it has none; with any other answer 0. So ask
+ * year has, 1 to 12, or 0 if it has none; with any other answer of
+ * chiselbrow_store 0. So ask
  * chiselbrow_refusal first: 0 by itself does not say that a year has no leap
  * month. */
 static inline unsigned chiselbrow_leap_month(uint64_t answer)
@@ -482,6 +524,102 @@ chiselbrow_read_date(const uint8_t *record, size_t record_len,
  * at once and from a signal handler. */
 uint64_t chiselbrow_convert(const uint8_t *input, size_t input_len,
                             uint8_t *output, size_t output_len);
+
+/* Exports a day and a time of it as a row of the observatory's list.
+ *
+ * system               the system whose parts the time is in
+ * day                  the register day; any is taken
+ * parts, units         the time since midnight in parts of the day, and what is
+ *                      left of a part in small units, of whatever size
+ * output, output_len   where the row goes
+ *
+ * Exported: the first 13 output bytes become the row, with the fraction of the
+ * day that the whole parts are; any bytes after them stay as they were. What the
+ * output held before makes no difference. Small units are cut off, and the
+ * answer says whether there were any.
+ *
+ * Refused: no byte of the output changes. The first that holds is the one told,
+ * in this order:
+ *
+ *     4   the system is neither 1 nor 2
+ *    12   the parts are not below those of a day, 12030 or 7290
+ *     8   the output is shorter than 13 bytes
+ *
+ * The answer is 2^32 times the refusal number, plus 1 where small units were cut
+ * off; chiselbrow_refusal and chiselbrow_units_cut take it apart.
+ *
+ * The numbers are wide, so that none is cut before it can be refused. Only the
+ * bytes lent are written. A pointer whose length is 0 may be null.
+ *
+ * The call keeps no state, allocates nothing, makes no system call and ends
+ * after a fixed handful of steps. It may be made from any number of threads
+ * at once and from a signal handler. Floats have to be rounded to the nearest,
+ * as they are unless a program asks for another way. */
+uint64_t chiselbrow_export(uint64_t system, uint32_t day, uint64_t parts,
+                           uint64_t units, uint8_t *output, size_t output_len);
+
+/* Whether small units were cut off, in an answer of chiselbrow_export: 1 or 0;
+ * 0 when refused. */
+static inline int chiselbrow_units_cut(uint64_t answer)
+{
+    return (int)(answer & 1u);
+}
+
+/* Imports a row of the observatory's list.
+ *
+ * system               the system whose parts the time is to be told in
+ * row, row_len         the row, and nothing after it; never changed
+ *
+ * Imported: the answer has the row's day as it stands, the tag, which tells what
+ * the time came as, and the count of parts that the time settles to. A count is
+ * taken as it is. A fraction settles to the largest count below the parts of a
+ * day whose exported fraction is not above it. Negative zero settles to 0.
+ *
+ * Refused: the first that holds is the one told, in this order:
+ *
+ *     3   the row is longer or shorter than 13 bytes
+ *     4   the system is neither 1 nor 2
+ *     2   the tag is neither 1 nor 2
+ *    12   tag 1: the fraction is not a number, below zero or not below one;
+ *         tag 2: the parts are not below those of a day, or one of the six
+ *         bytes after them is not zero
+ *
+ * The answer is the day, plus 2^32 times the refusal number, plus 2^40 times the
+ * count, plus 2^56 times the tag, to be taken apart by chiselbrow_day,
+ * chiselbrow_refusal and the two functions below. Refused, it is 2^32 times the
+ * refusal number: there is neither day nor time.
+ *
+ *     uint64_t answer = chiselbrow_import(CHISELBROW_GUANTIAN,
+ *                                         row, row_len);
+ *
+ *     if (chiselbrow_refusal(answer) == CHISELBROW_ACCEPTED)
+ *         printf("day %lu, %u parts\n",
+ *                (unsigned long)chiselbrow_day(answer),
+ *                chiselbrow_parts(answer));
+ *
+ * Any bytes may be handed in, and any lengths. Only the bytes lent are read. A
+ * pointer whose length is 0 may be null; such a row is refused 3.
+ *
+ * The call keeps no state, allocates nothing, makes no system call and ends
+ * after a fixed handful of steps. It may be made from any number of threads
+ * at once and from a signal handler. Floats have to be rounded to the nearest,
+ * as they are unless a program asks for another way. */
+uint64_t chiselbrow_import(uint64_t system, const uint8_t *row,
+                           size_t row_len);
+
+/* The count of parts in an answer of chiselbrow_import; 0 when refused, so ask
+ * chiselbrow_refusal first. */
+static inline unsigned chiselbrow_parts(uint64_t answer)
+{
+    return (unsigned)(answer >> 40 & 0xFFFFu);
+}
+
+/* What the time came as, in an answer of chiselbrow_import:
+ * CHISELBROW_TAG_FRACTION or CHISELBROW_TAG_PARTS; 0 when refused. */
+static inline unsigned chiselbrow_tag(uint64_t answer)
+{
+    return (unsigned)(answer >> 56);
+}
 
 #ifdef __cplusplus
 }

@@ -16,6 +16,7 @@ static uint64_t check_converted(const struct call *converted)
 {
     struct call then;
 
+    then.form = converted->form;
     memcpy(then.input, converted->record, RECORD);
     then.input_len = RECORD;
     then.output_len = converted->output_len;

@@ -17,17 +17,19 @@
 enum {
     BLOCK = 1 << 20,      /* bytes asked for at a time */
     LONGEST = 255,        /* of an input or an output */
-    LONGEST_FRAME = 1 + LONGEST + 1 + 8 + 10 + 1 + 8 + 10,
     BEFORE = 64,          /* bytes watched before each buffer */
+    MOST_NUMBERS = 4,     /* that are handed in before the buffers */
+    MOST_FIELDS = 3,      /* of an answer, beside the refusal */
+    MOST_WRITTEN = 13,    /* where a call is accepted */
     RECORD = 10
 };
 
 static const char *check_name;
 static uint64_t cases_done;
 
-/* The stream, read by large blocks. */
+/* The stream, read by large blocks, and taken by LONGEST bytes at most. */
 
-static uint8_t block[BLOCK + LONGEST_FRAME];
+static uint8_t block[BLOCK + LONGEST];
 static size_t block_at, block_end;
 
 /* Makes sure that so many bytes are there, if the stream still has them. */
@@ -64,47 +66,69 @@ static const uint8_t *take(size_t count)
     return taken;
 }
 
-static uint8_t take_byte(void)
+/* The next number, of so many bytes, the low one first. */
+static uint64_t take_number(size_t bytes)
 {
-    return *take(1);
+    const uint8_t *taken = take(bytes);
+    uint64_t number = 0;
+
+    while (bytes-- > 0)
+        number = number << 8 | taken[bytes];
+    return number;
 }
 
-/* A call as a frame has it: its input, the length of its output, the expected
- * answer and, where that accepts the input, the expected ten bytes. */
+/* A part of an answer: from which bit on, and how many. */
+struct field {
+    const char *name;
+    unsigned lowest, bits;
+};
+
+/* What the calls of a function have in common: the names of the numbers that it
+ * is handed before its buffers, what its answers tell beside the refusal, and
+ * how many bytes it writes where it accepts. */
+struct form {
+    const char *numbers[MOST_NUMBERS];
+    struct field fields[MOST_FIELDS];
+    size_t written_len;
+};
+
+/* The storing step and the conversion. */
+static const struct form of_records = {{NULL}, {{"month", 40, 8}, {"day", 0, 32}}, RECORD};
+
+/* A call as a frame has it: its numbers, its input, the length of its output,
+ * the expected answer and, where that accepts it, the bytes to be written. */
 struct call {
+    const struct form *form;
+    uint64_t numbers[MOST_NUMBERS];
     uint8_t input[LONGEST];
     size_t input_len, output_len;
     uint64_t answer;
-    uint8_t record[RECORD];
+    uint8_t record[MOST_WRITTEN];
 };
 
-/* Accepted is told by a day alone: no refusal, and no month either. */
+static unsigned refusal_in(uint64_t answer)
+{
+    return (unsigned)(answer >> 32 & 0xFF);
+}
+
 static int is_accepted(uint64_t answer)
 {
-    return answer >> 32 == 0;
+    return refusal_in(answer) == 0;
+}
+
+static void take_input(struct call *call)
+{
+    call->input_len = take_number(1);
+    memcpy(call->input, take(call->input_len), call->input_len);
 }
 
 /* What a call that was begun with its input is expected to give. */
 static void take_expected(struct call *call)
 {
-    call->output_len = take_byte();
-    const uint8_t *answer = take(8);
-    call->answer = 0;
-    for (int i = 7; i >= 0; i--)
-        call->answer = call->answer << 8 | answer[i];
+    call->output_len = take_number(1);
+    call->answer = take_number(8);
     if (is_accepted(call->answer))
-        memcpy(call->record, take(RECORD), RECORD);
-}
-
-/* Reads the call by which a frame begins; 0 at the end of the stream. */
-static int next_call(struct call *call)
-{
-    if (!have(1))
-        return 0;
-    call->input_len = take_byte();
-    memcpy(call->input, take(call->input_len), call->input_len);
-    take_expected(call);
-    return 1;
+        memcpy(call->record, take(call->form->written_len), call->form->written_len);
 }
 
 static void print_hex(const char *what, const uint8_t *bytes, size_t count)
@@ -115,24 +139,30 @@ static void print_hex(const char *what, const uint8_t *bytes, size_t count)
     fprintf(stderr, "\n");
 }
 
-static void print_answer(const char *what, uint64_t answer)
+static void print_answer(const char *what, const struct form *form, uint64_t answer)
 {
-    fprintf(stderr, "  %s: refusal %llu, month %llu, day %llu (%016llX)\n", what,
-            (unsigned long long)(answer >> 32 & 0xFF),
-            (unsigned long long)(answer >> 40 & 0xFF),
-            (unsigned long long)(answer & 0xFFFFFFFFu),
-            (unsigned long long)answer);
+    const struct field *field = form->fields;
+
+    fprintf(stderr, "  %s: refusal %u", what, refusal_in(answer));
+    for (; field < form->fields + MOST_FIELDS && field->name != NULL; field++)
+        fprintf(stderr, ", %s %llu", field->name,
+                (unsigned long long)(answer >> field->lowest & ((UINT64_C(1) << field->bits) - 1)));
+    fprintf(stderr, " (%016llX)\n", (unsigned long long)answer);
 }
 
 static void print_call(const char *why, const struct call *call)
 {
+    const struct form *form = call->form;
+
     fflush(stdout);
     fprintf(stderr, "%s: case %llu: %s\n", check_name, (unsigned long long)(cases_done + 1), why);
+    for (size_t i = 0; i < MOST_NUMBERS && form->numbers[i] != NULL; i++)
+        fprintf(stderr, "  %s: %llu\n", form->numbers[i], (unsigned long long)call->numbers[i]);
     print_hex("input", call->input, call->input_len);
     fprintf(stderr, "  output length: %zu\n", call->output_len);
-    print_answer("expected", call->answer);
+    print_answer("expected", form, call->answer);
     if (is_accepted(call->answer))
-        print_hex("expected record", call->record, RECORD);
+        print_hex("expected to be written", call->record, form->written_len);
 }
 
 /* Buffers that end at a page which cannot be touched. */
@@ -198,40 +228,43 @@ static void fail(const char *why, uint64_t came)
     const struct call *call = call_at_hand;
 
     print_call(why, call);
-    print_answer("came", came);
+    print_answer("came", call->form, came);
     print_hex("output after the call", output_place.end - call->output_len, call->output_len);
     print_hex("output before the call", output_place.copy + BEFORE, call->output_len);
     exit(1);
 }
 
-typedef uint64_t function(const uint8_t *, size_t, uint8_t *, size_t);
-
-/* Makes the call, which must answer as is expected, leave its input alone, and
- * write the expected ten bytes and no others; refused, none at all. */
-static void check_call(function *called, const struct call *call)
+/* Fills the buffers of a call that is to be made next. */
+static void lend(const struct call *call, const uint8_t **input, uint8_t **output)
 {
-    uint8_t *input = fill_with(&input_place, call->input, call->input_len);
-    uint8_t *output = fill(&output_place, call->output_len);
-
+    *input = fill_with(&input_place, call->input, call->input_len);
+    *output = fill(&output_place, call->output_len);
     call_at_hand = call;
-    if (is_accepted(call->answer) && call->output_len < RECORD)
-        fail("the stream expects a record where there is no room for one", call->answer);
-    uint64_t came = called(input, call->input_len, output, call->output_len);
+    if (is_accepted(call->answer) && call->output_len < call->form->written_len)
+        fail("the stream expects more bytes than there is room for", call->answer);
+}
+
+/* The call that was made must answer as is expected, leave its input alone, and
+ * write the expected bytes and no others; refused, none at all. */
+static void check_answer(const struct call *call, uint64_t came)
+{
+    size_t written_len = call->form->written_len;
+
     if (came != call->answer)
         fail("another answer", came);
     if (!untouched(&input_place, call->input_len, 0))
         fail("the input was changed", came);
     if (!is_accepted(came)) {
         if ((came & 0xFFFFFFFFu) != 0)
-            fail("refused with a day", came);
+            fail("refused, and yet more is told below the refusal", came);
         if (!untouched(&output_place, call->output_len, 0))
             fail("refused, and yet the output was changed", came);
         return;
     }
-    if (memcmp(output, call->record, RECORD) != 0)
-        fail("another record", came);
-    if (!untouched(&output_place, call->output_len, RECORD))
-        fail("a byte outside of the first ten was changed", came);
+    if (memcmp(output_place.end - call->output_len, call->record, written_len) != 0)
+        fail("other bytes were written", came);
+    if (!untouched(&output_place, call->output_len, written_len))
+        fail("a byte beside those to be written was changed", came);
 }
 
 /* A fault inside the call: a byte beyond a buffer was touched. Printing here
@@ -266,4 +299,29 @@ static void end(void)
         return;
     fprintf(stderr, "%s: the stream is empty\n", check_name);
     exit(1);
+}
+
+/* What the checks of the storing step and of the conversion have besides. */
+
+typedef uint64_t function(const uint8_t *, size_t, uint8_t *, size_t);
+
+/* Reads the call by which a frame begins; 0 at the end of the stream. It is
+ * inline, as is the next, for the check that has calls of other forms. */
+static inline int next_call(struct call *call)
+{
+    if (!have(1))
+        return 0;
+    call->form = &of_records;
+    take_input(call);
+    take_expected(call);
+    return 1;
+}
+
+static inline void check_call(function *called, const struct call *call)
+{
+    const uint8_t *input;
+    uint8_t *output;
+
+    lend(call, &input, &output);
+    check_answer(call, called(input, call->input_len, output, call->output_len));
 }

@@ -11,7 +11,7 @@ use crate::citation::{answer, store, Refusal, Stored};
 use crate::conversion::{convert, formerly_stored};
 use crate::random::Random;
 use crate::reckoning::{Table, Tables};
-use crate::streams::{citation_of, frame, room, stored_at, Maker, MOST};
+use crate::streams::{citation_of, expected, frame, room, stored_at, Maker, MOST};
 use crate::tally::Tally;
 use std::io::{self, Write};
 
@@ -43,9 +43,8 @@ impl Case {
         if self.converted.is_err() {
             return Ok(());
         }
-        out.write_all(&[self.storing_room as u8])?;
-        out.write_all(&answer(&self.stored).to_le_bytes())?;
-        out.write_all(self.stored.as_ref().map_or(&[], |(_, record)| &record[..]))
+        let written = self.stored.as_ref().map_or(&[][..], |(_, record)| record);
+        expected(out, self.storing_room, answer(&self.stored), written)
     }
 }
 

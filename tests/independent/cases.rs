@@ -3,6 +3,7 @@
 
 use crate::almanac;
 use crate::citation::{answer, store, Refusal, Stored};
+use crate::exchange_cases;
 use crate::heads;
 use crate::lines::lines;
 use crate::month_cases;
@@ -52,6 +53,7 @@ pub fn run(tables: &Tables) -> Checks {
     retired_cases::run(tables, &mut checks);
     month_cases::run(tables, &mut checks);
     submerged_cases::run(tables, &mut checks);
+    exchange_cases::run(&mut checks);
     for system in SYSTEMS {
         let table = tables.table(system.number).unwrap();
         facts(table, &mut checks);

@@ -7,6 +7,10 @@ mod cases;
 mod citation;
 mod compare;
 mod conversion;
+mod exchange;
+mod exchange_cases;
+mod exchange_streams;
+mod float;
 mod fraction;
 mod heads;
 mod lines;
@@ -22,6 +26,7 @@ mod submerged;
 mod submerged_cases;
 mod tally;
 
+use exchange::Scales;
 use reckoning::{System, Table, Tables};
 use requests::{answers, Number};
 use std::io::{self, BufWriter, Read, Write};
@@ -50,6 +55,10 @@ const USAGE: &str = "usage:
   independent old-stream SEED COUNT
   independent former < records
   independent renew < records
+  independent exports SYSTEM
+  independent fractions SYSTEM
+  independent rows
+  independent exchange-random SEED COUNT
   independent cases";
 
 fn main() {
@@ -85,6 +94,10 @@ fn main() {
         ["old-stream", seed, count] => stream(streams::old_stream, word(seed), word(count), &mut out),
         ["former"] => renewal::former_lines(&Tables::new(), &records(), &mut out),
         ["renew"] => renew(&mut out),
+        ["exports", system] => exports(word(system), &mut out),
+        ["fractions", system] => fractions(word(system), &mut out),
+        ["rows"] => exchange_streams::rows(&Scales::new(), &mut out),
+        ["exchange-random", seed, count] => exchange_random(word(seed), word(count), &mut out),
         ["cases"] => cases(&mut out),
         _ => usage(),
     };
@@ -175,6 +188,26 @@ fn old_random(seed: u64, count: u64, out: &mut impl Write) -> io::Result<()> {
     enough(all && then_all, count, out)
 }
 
+fn exports(system: u64, out: &mut impl Write) -> io::Result<()> {
+    let scales = Scales::new();
+    let scale = scales.asked(system).unwrap_or_else(|_| usage());
+    exchange_streams::exports(&scales, scale, out)
+}
+
+fn fractions(system: u64, out: &mut impl Write) -> io::Result<()> {
+    let scales = Scales::new();
+    exchange_streams::fractions(scales.asked(system).unwrap_or_else(|_| usage()), out)
+}
+
+fn exchange_random(seed: u64, count: u64, out: &mut impl Write) -> io::Result<()> {
+    eprintln!("independent: random seed {}", seed);
+    let met = exchange_streams::random(&Scales::new(), seed, count, out)?;
+    let exports = tell_tally(&met.exports, &exchange_streams::EXPORT_ANSWERS);
+    let imports = tell_tally(&met.imports, &exchange_streams::IMPORT_ANSWERS);
+    eprintln!("independent: {}", met.times_text());
+    enough(exports && imports && met.all_times(), count, out)
+}
+
 /// Tells how often each of these answers came, and whether all did.
 fn tell_tally(tally: &Tally, answers: &[u8]) -> bool {
     eprintln!("independent: {}", tally.text(answers));
@@ -184,7 +217,7 @@ fn tell_tally(tally: &Tally, answers: &[u8]) -> bool {
 /// A large run that does not meet all that there is does not test it.
 fn enough(all: bool, count: u64, out: &mut impl Write) -> io::Result<()> {
     if count >= 1_000_000 && !all {
-        eprintln!("independent: an answer, a kind or a name never came");
+        eprintln!("independent: an answer, a kind, a name or a time never came");
         out.flush()?;
         exit(1);
     }

@@ -18,14 +18,22 @@ pub fn frame(
     output_length: usize,
     result: &Result<Stored, Refusal>,
 ) -> io::Result<()> {
+    lent(out, input)?;
+    expected(out, output_length, answer(result), result.as_ref().map_or(&[], |(_, record)| record))
+}
+
+/// An input as it stands in a frame.
+pub fn lent(out: &mut impl Write, input: &[u8]) -> io::Result<()> {
     out.write_all(&[input.len() as u8])?;
-    out.write_all(input)?;
+    out.write_all(input)
+}
+
+/// How a call ends in a frame: the length of its output, the expected answer,
+/// and the bytes that are to be written.
+pub fn expected(out: &mut impl Write, output_length: usize, answer: u64, written: &[u8]) -> io::Result<()> {
     out.write_all(&[output_length as u8])?;
-    out.write_all(&answer(result).to_le_bytes())?;
-    if let Ok((_, record)) = result {
-        out.write_all(record)?;
-    }
-    Ok(())
+    out.write_all(&answer.to_le_bytes())?;
+    out.write_all(written)
 }
 
 /// The kinds that the storing step takes.

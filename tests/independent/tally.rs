@@ -5,7 +5,7 @@ use crate::citation::Refusal;
 
 /// A count for every refusal number, and at 0 for what is accepted.
 #[derive(Default)]
-pub struct Tally([u64; 12]);
+pub struct Tally([u64; 13]);
 
 impl Tally {
     pub fn count<T>(&mut self, result: &Result<T, Refusal>) {
