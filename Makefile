@@ -25,10 +25,10 @@ bench_tools = build/bench build/bench_exchange build/bench_heads build/c_program
               build/c_submerged
 # The longest first, so that two at a time end together.
 tests = tests/mixups.sh tests/program.sh tests/every_day.sh tests/convert.sh tests/renew.sh tests/every_year.sh \
-        tests/pipes.sh tests/damaged.sh tests/exchange.sh tests/every_comparison.sh tests/every_submerged.sh tests/every_pentad.sh \
-        tests/faults.sh tests/cases.sh tests/descriptors.sh tests/arguments.sh tests/manual.sh tests/install.sh \
-        tests/shared.sh tests/shared.py tests/header.sh tests/host.sh tests/printed_heads.sh build/null_check \
-        build/builders build/incident
+        tests/pipes.sh tests/damaged.sh tests/exchange.sh tests/every_comparison.sh tests/every_submerged.sh \
+        tests/every_pentad.sh tests/faults.sh tests/cases.sh tests/descriptors.sh tests/arguments.sh tests/manual.sh \
+        tests/install.sh tests/shared.sh tests/shared.py tests/header.sh tests/host.sh tests/rows.sh \
+        tests/printed_heads.sh build/null_check build/builders build/incident
 crates := crates.txt $(shell find crates -name must-fail -prune -o -type f -print)
 
 # Two runs of rt at a time would share target/.

@@ -1,6 +1,6 @@
 #!/usr/bin/env bash
 # The header compiles without a warning, and what it and the manual page say by example is so: the program, the records
-# and their days, the day on which a year begins.
+# and their days, the rows and their times, the day on which a year begins.
 set -euo pipefail
 cd "$(dirname "$0")/.."
 scratch=$(mktemp -d)
@@ -28,13 +28,20 @@ prints() {
 sed -n '/^ \*     #include/,/^ \*     }$/s/^ \* \{0,5\}//p' "$header" > "$scratch/example.c"
 printed=$(sed -n 's/^ \* It prints "\(.*\)"\.$/\1/p' "$header")
 prints "$scratch/example" "${printed:?}"
-{
-    printf '#include <chiselbrow.h>\n#include <stdio.h>\nint main(void)\n{\n'
-    sed -n '/^\.SH EXAMPLES/,/^\.fi/{s/\\e/\\/g;/^\.nf/,/^\.fi/{/^\./!p}}' "$page"
-    printf '}\n'
-} > "$scratch/page.c"
-expect 'what the page prints' "prints \"$printed\"." "$(grep ^prints "$page")"
-prints "$scratch/page" "$printed"
+
+# The first and the last of the page's examples are a program's body.
+bodies() {
+    awk -v which="$1" '/^\.SH EXAMPLES/ { inside = 1 } inside && /^\.nf/ { n++; next } /^\.fi/ { n += n > 0; next }
+        inside && n == which && !/^\./' "$page" | sed 's/\\e/\\/g'
+}
+page_prints() {
+    { printf '#include <chiselbrow.h>\n#include <stdio.h>\nint main(void)\n{\n'; bodies "$2"; printf '}\n'; } > "$1.c"
+    prints "$1" "$3"
+}
+mapfile -t page_printed < <(sed -n 's/^prints "\(.*\)"\.$/\1/p' "$page")
+expect 'what the page prints first' "$printed" "${page_printed[0]}"
+page_prints "$scratch/page" 1 "$printed"
+page_prints "$scratch/page-rows" 5 "${page_printed[1]:?}"
 
 # The lines of a text that begin with the bytes of a record.
 records() {
@@ -58,6 +65,17 @@ while IFS=: read -r record _ day; do
 done < "$scratch/ordered"
 LC_ALL=C sort -c "$scratch/ordered"
 sort -t : -k 3 -rc "$scratch/ordered"
+
+# Two rows of Guantian, one of each tag, tell the day and the parts that they are said to have.
+rows() {
+    sed -n 's/^\( \*     \)\?\([0-9A-F]\{2\}\( [0-9A-F]\{2\}\)\{12\}\) \{2,\}\(.*\)/\2:\4/p' "$@"
+}
+rows "$header" > "$scratch/rows"
+expect 'the rows of the page' "$(cat "$scratch/rows")" "$(rows "$page")"
+while IFS=: read -r row _; do printf '%b' "\\x${row// /\\x}"; done < "$scratch/rows" > "$scratch/list"
+expect 'what the rows tell' '2120808 6015 fraction 2120808 6015 parts' "$(build/rows 1 "$scratch/list" | paste -sd ' ')"
+expect 'what is said of them' ':day 2120808, half of it :day 2120808, 6015 parts' \
+    "$(sed 's/.*:/:/' "$scratch/rows" | paste -sd ' ')"
 
 # The day of the Julian calendar that a register day is: year, month, day.
 julian() {

@@ -47,7 +47,8 @@ man=$scratch/share/man
 for page in man1/chiselbrow.1 man1/almanac.1 man1/chiselbrow-renew.1 man3/chiselbrow.3; do
     cmp -s "man/${page#*/}" "$man/$page" || fail "no $page, or another one"
 done
-for function in store convert day refusal leap_month cite_date cite_name cite_ordinal cite_day read_date; do
+for function in store convert export import day refusal leap_month cite_date cite_name cite_ordinal cite_day read_date \
+                units_cut parts tag; do
     [ "$(cat "$man/man3/chiselbrow_$function.3")" = '.so man3/chiselbrow.3' ] || fail "no page for chiselbrow_$function"
 done
 

@@ -1,4 +1,4 @@
-/* Null pointers with length 0, in both calls, and the accessors of the header. */
+/* Null pointers with length 0, in every call, and the accessors of the header. */
 
 #include <chiselbrow.h>
 #include <stdio.h>
@@ -64,6 +64,67 @@ static void check_convert(void)
     expect("an old record", chiselbrow_store(old, sizeof old, NULL, 0), CHISELBROW_REFUSED_RETIRED, 0);
 }
 
+/* Answers of the exchange, taken apart. */
+static void expect_row(const char *what, uint64_t answer, unsigned refusal, unsigned tag,
+                       unsigned parts, uint32_t day)
+{
+    if (chiselbrow_refusal(answer) == refusal && chiselbrow_tag(answer) == tag &&
+        chiselbrow_parts(answer) == parts && chiselbrow_day(answer) == day)
+        return;
+    fprintf(stderr, "null: %s: refusal %u, tag %u, parts %u, day %lu\n", what,
+            chiselbrow_refusal(answer), chiselbrow_tag(answer), chiselbrow_parts(answer),
+            (unsigned long)chiselbrow_day(answer));
+    failures++;
+}
+
+static void expect_export(const char *what, uint64_t answer, unsigned refusal, int cut)
+{
+    if (chiselbrow_refusal(answer) == refusal && chiselbrow_units_cut(answer) == cut)
+        return;
+    fprintf(stderr, "null: %s: refusal %u, small units cut off: %d\n", what,
+            chiselbrow_refusal(answer), chiselbrow_units_cut(answer));
+    failures++;
+}
+
+static void check_exchange(void)
+{
+    static const uint8_t half[] = {0x68, 0x5C, 0x20, 0, CHISELBROW_TAG_FRACTION, 0, 0, 0, 0, 0, 0, 0xE0, 0x3F};
+    uint8_t output[16], before[16];
+
+    memset(output, 0xA5, sizeof output);
+    memcpy(before, output, sizeof output);
+    expect_export("export, no output", chiselbrow_export(CHISELBROW_GUANTIAN, 2120808, 6015, 1, NULL, 0),
+                  CHISELBROW_REFUSED_OUTPUT, 0);
+    expect_export("export, no output, no time", chiselbrow_export(CHISELBROW_GUANTIAN, 2120808, 12030, 1, NULL, 0),
+                  CHISELBROW_REFUSED_TIME, 0);
+    expect_export("export, no output, no exchange", chiselbrow_export(CHISELBROW_JINGCHU, 2120808, 12030, 1, NULL, 0),
+                  CHISELBROW_REFUSED_SYSTEM, 0);
+    expect_export("export, twelve bytes", chiselbrow_export(CHISELBROW_GUANTIAN, 2120808, 6015, 0, output, 12),
+                  CHISELBROW_REFUSED_OUTPUT, 0);
+    expect_same("export, twelve bytes", output, before, sizeof output);
+    expect_export("export", chiselbrow_export(CHISELBROW_GUANTIAN, 2120808, 6015, 0, output, sizeof output),
+                  CHISELBROW_ACCEPTED, 0);
+    expect_same("export past the row", output + 13, before + 13, sizeof output - 13);
+    if (memcmp(output, half, sizeof half) != 0) {
+        fprintf(stderr, "null: exported as other bytes\n");
+        failures++;
+    }
+    expect_export("export, units", chiselbrow_export(CHISELBROW_JIYUAN, 2120808, 7289, 3, output, sizeof output),
+                  CHISELBROW_ACCEPTED, 1);
+
+    expect_row("import, no row", chiselbrow_import(CHISELBROW_GUANTIAN, NULL, 0), CHISELBROW_REFUSED_LENGTH, 0, 0, 0);
+    expect_row("import, no row, no exchange", chiselbrow_import(0, NULL, 0), CHISELBROW_REFUSED_LENGTH, 0, 0, 0);
+    expect_row("import", chiselbrow_import(CHISELBROW_GUANTIAN, half, sizeof half), CHISELBROW_ACCEPTED,
+               CHISELBROW_TAG_FRACTION, 6015, 2120808);
+
+    /* Written out, so that the accessors are held to the layout. */
+    expect_row("imported, written out", UINT64_C(2) << 56 | UINT64_C(12029) << 40 | 2120808, 0, 2, 12029, 2120808);
+    expect_row("refused 12, written out", UINT64_C(12) << 32, CHISELBROW_REFUSED_TIME, 0, 0, 0);
+    expect_row("the largest of each", UINT64_MAX, 0xFF, 0xFF, 0xFFFF, 0xFFFFFFFFu);
+    expect_export("cut, written out", 1, 0, 1);
+    expect_export("refused 4, written out", UINT64_C(4) << 32, CHISELBROW_REFUSED_SYSTEM, 0);
+}
+
 int main(void)
 {
     uint8_t cited[CHISELBROW_DAY_SIZE], no_system[CHISELBROW_DAY_SIZE];
@@ -97,6 +158,7 @@ int main(void)
     expect("the largest day", UINT64_C(0xFFFFFFFF), 0, 0xFFFFFFFFu);
 
     check_convert();
+    check_exchange();
     if (failures != 0)
         return 1;
     printf("null: empty buffers are refused as they must be\n");

@@ -1,9 +1,10 @@
 #!/usr/bin/env python3
-"""The shared library, called from Python: case 9, a day of Jingchu, an old record, refusals, and outputs that are long
-and short."""
+"""The shared library, called from Python: case 9, a day of Jingchu, an old record, a row, refusals, and outputs that are
+long and short."""
 
 import ctypes
 import os
+import struct
 import sys
 
 os.chdir(os.path.join(os.path.dirname(os.path.abspath(__file__)), ".."))
@@ -72,4 +73,18 @@ for call in store, convert:
     check(call, "", 16, 1 << 32, b"")
     if call(None, 0, None, 0) != 1 << 32:
         sys.exit(f"shared.py: {call.__name__}: null pointers are not refused 1")
-print("shared.py: two days in four kinds, an old record, refusals that change no byte, outputs long and short")
+export, import_row = library.chiselbrow_export, library.chiselbrow_import
+export.restype = import_row.restype = ctypes.c_uint64
+export.argtypes = [ctypes.c_uint64, ctypes.c_uint32, ctypes.c_uint64, ctypes.c_uint64, ctypes.c_char_p, ctypes.c_size_t]
+import_row.argtypes = [ctypes.c_uint64, ctypes.c_char_p, ctypes.c_size_t]
+for system, parts_in_day in (1, 12030), (2, 7290):
+    for parts in 0, 1, parts_in_day // 3, parts_in_day - 1:
+        output = ctypes.create_string_buffer(b"\xA5" * 16, 16)
+        row = struct.pack("<IBd", 2120808, 1, parts / parts_in_day)
+        if export(system, 2120808, parts, parts % 2, output, 16) != parts % 2 or output.raw != row + b"\xA5" * 3:
+            sys.exit(f"shared.py: {parts} parts of system {system} are exported otherwise")
+        if import_row(system, row, 13) != 1 << 56 | parts << 40 | 2120808:
+            sys.exit(f"shared.py: the fraction of {parts} parts of system {system} settles otherwise")
+if export(1, 0, 12030, 0, None, 0) != 12 << 32 or import_row(1, None, 0) != 3 << 32:
+    sys.exit("shared.py: a row is not refused as it must be")
+print("shared.py: two days in four kinds, an old record, rows, refusals that change no byte, outputs long and short")

@@ -1,13 +1,13 @@
 -- The exported fraction of a count is a fraction of a day, and settles to that count.
 use Prim.Native.Nat.{ℕ, _+_, _*_, _^_, _≤_, _<_}
 use mathlib.Core.Path.{_≡_, sym, subst}
-use mathlib.Core.Bool.{true, false, not}
+use mathlib.Core.Bool.{false, not}
 use native.Mathlib.Nat.{zero-mul, mul-le-mul-right, lt-of-mul-lt-mul-right}
 use native.Mathlib.Omega.{arith}
-use lib.Dec.{T, lt→ltb}
+use lib.Dec.{T}
 use lib.IntN.{pos}
-use lib.Ieee.{Float, nan, inf, fin, binary64, up, down, isNan, le, lt, fits, ofInt}
-use lib.Ieee.Fits.{down-pos, and-i, div-fits}
+use lib.Ieee.{Float, fin, binary64, up, isNan, le, lt, fits, ofInt}
+use lib.Ieee.Fits.{and-i, div-fits}
 use lib.Ieee.Order.{round-mono}
 use lib.Ieee.Positive.{num, den, den-pos, through}
 use Rattle.day_fraction.specs.Fraction.{fractionOf}

@@ -1,6 +1,6 @@
 -- What is no fraction of a day: not a number, below zero, or not below one.
-use Prim.Native.Nat.{ℕ, zero, suc, _+_, _*_, _≤_, _<_}
-use mathlib.Core.Path.{_≡_, refl, sym, ap, subst}
+use Prim.Native.Nat.{zero, suc, _+_, _*_, _<_}
+use mathlib.Core.Path.{refl, ap, subst}
 use mathlib.Core.Logic.{inl, inr, ⊎-elim}
 use mathlib.Core.Bool.{true, false}
 use native.Mathlib.Nat.{zero-mul, mul-pos}

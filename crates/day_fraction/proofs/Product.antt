@@ -1,10 +1,10 @@
 -- A fraction of a day times the parts of a day, rounded and then cut down.
-use Prim.Native.Nat.{ℕ, zero, suc, _+_, _*_, _-_, _/_, _^_, _≤_, _<_, min}
+use Prim.Native.Nat.{ℕ, zero, suc, _+_, _*_, _-_, _/_, _^_, _≤_, _<_}
 use mathlib.Core.Path.{_≡_, refl, sym, ap, ap₂, subst, _∙_}
 use mathlib.Core.Bool.{true, false, not, true≢false}
-use native.Mathlib.Nat.{le-trans, le-of-eq, lt-of-lt-of-le, not-le-of-lt, div-one, mul-pos, mul-le-mul-right, zero-mul, min-eq-left, div-le-self, div-mul-le-self, lt-div-mul-add, div-lt-iff-lt-mul, le-div-iff-mul-le}
+use native.Mathlib.Nat.{le-trans, le-of-eq, lt-of-lt-of-le, not-le-of-lt, div-one, mul-pos, mul-le-mul-right, zero-mul, div-le-self, div-mul-le-self, lt-div-mul-add, div-lt-iff-lt-mul}
 use native.Mathlib.Omega.{arith}
-use lib.Dec.{T, ltb, eqb, eqb→eq, lt→ltb}
+use lib.Dec.{T, eqb→eq}
 use lib.IntN.{pos, negsuc}
 use lib.Pow.{pow-pos, pow-mono, pow-add, shl-lt, shl-shr}
 use lib.Ieee.Digits.{size-lt, size-le}

@@ -1,5 +1,5 @@
 -- Every export ends as the paper says.
-use Prim.Native.Nat.{ℕ, _+_, _*_, _^_, _≤_, _<_}
+use Prim.Native.Nat.{ℕ, _*_, _^_, _<_}
 use mathlib.Core.Path.{_≡_, refl, sym, ap, subst, _∙_}
 use mathlib.Core.Logic.{inl, inr}
 use mathlib.Core.Bool.{false}
@@ -9,7 +9,6 @@ use native.Mathlib.Decide.{ℕ-discrete}
 use lib.ListN.{length, drop}
 use lib.Ieee.{binary64, round}
 use Rattle.calendar.proofs.Rising.{by-order}
-use Rattle.reckoning.specs.RefusalNumbers.{SYSTEM, TIME, OUTPUT}
 use Rattle.reckoning.specs.WordedRefusals.{FirstOf}
 use Rattle.day_fraction.specs.Fraction.{fractionOf}
 use Rattle.day_fraction.proofs.Rounding.{fraction-is}

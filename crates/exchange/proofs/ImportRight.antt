@@ -1,26 +1,24 @@
 -- Every import ends as the paper says.
-use Prim.Native.Nat.{ℕ, _^_, _≤_, _<_}
-use mathlib.Core.Path.{_≡_, refl, sym, ap, subst, _∙_}
+use Prim.Native.Nat.{ℕ, _^_, _<_}
+use mathlib.Core.Path.{_≡_, refl, ap, subst}
 use mathlib.Core.Logic.{_⊎_, inl, inr, ⊎-elim}
 use mathlib.Core.List.{List}
 use native.Mathlib.Omega.{arith}
 use native.Mathlib.Decide.{ℕ-discrete}
-use lib.Dec.{T}
 use lib.ListN.{length}
 use lib.Ieee.{Float, binary64}
 use lib.Ieee.Bits.{ofBits-fits}
 use borrow.Author.Tests.{lt-ltb, le-ltb, eq-eqb, ne-eqb}
 use Rattle.calendar.proofs.Rising.{by-order}
-use Rattle.reckoning.specs.Requests.{asRegisterDay}
 use Rattle.reckoning.specs.RefusalNumbers.{KIND, LENGTH, SYSTEM, TIME}
 use Rattle.reckoning.specs.WordedRefusals.{FirstOf}
-use Rattle.day_fraction.specs.Settling.{isFraction, NoFraction, countOf}
+use Rattle.day_fraction.specs.Settling.{countOf}
 use Rattle.day_fraction.proofs.Ends.{settled-fraction, settled-none}
 use Rattle.day_fraction.proofs.NoFractions.{by-fraction, never-both}
 use Rattle.day_fraction.proofs.Largest.{count-is-largest}
-use Rattle.exchange.specs.declared.data.Time.the-variants.{Fraction, Parts}
+use Rattle.exchange.specs.declared.data.Time.the-variants.{Fraction}
 use Rattle.exchange.specs.declared.data.Imported.{Imported}
-use Rattle.exchange.specs.declared.data.Imported.the-variants.{Refused, Row}
+use Rattle.exchange.specs.declared.data.Imported.the-variants.{Refused}
 use Rattle.exchange.specs.Systems.{HasExchange, partsInDay}
 use Rattle.exchange.specs.Row.{dayField, tagField, patternField, fractionField, partsField, fillerField}
 use Rattle.exchange.specs.RowRefusals.{ZeroFiller, WrongTime, importRows}

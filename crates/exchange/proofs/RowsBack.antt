@@ -10,7 +10,7 @@ use lib.Dec.{T}
 use Rattle.little_endian.proofs.ReadBack.{read-back-4, read-back-8}
 use Rattle.reckoning.specs.Requests.{asRegisterDay}
 use Rattle.day_fraction.specs.Fraction.{fractionOf}
-use Rattle.day_fraction.specs.Settling.{settledOf, countOf}
+use Rattle.day_fraction.specs.Settling.{settledOf}
 use Rattle.day_fraction.specs.declared.Settled.the-variants.{Count}
 use Rattle.day_fraction.proofs.ComesBack.{fraction-float, fraction-of-day, comes-back}
 use Rattle.day_fraction.proofs.Ends.{settled-fraction}
@@ -19,7 +19,7 @@ use Rattle.exchange.specs.declared.data.Imported.the-variants.{Row}
 use Rattle.exchange.specs.Systems.{HasExchange, partsInDay}
 use Rattle.exchange.specs.Row.{dayField, fractionField, rowOf}
 use Rattle.exchange.specs.Export.{exportRefusal, exportedInto}
-use Rattle.exchange.specs.Import.{answerWith, answerOf, fractionAnswer, importOf}
+use Rattle.exchange.specs.Import.{answerWith, answerOf, importOf}
 use Rattle.exchange.proofs.DayParts.{exchange-inside}
 use Rattle.exchange.proofs.Importing.{tagged-1}
 use Rattle.exchange.proofs.Exporting.{written}

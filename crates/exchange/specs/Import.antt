@@ -4,8 +4,6 @@ use mathlib.Core.Bool.{cond}
 use mathlib.Core.List.{List}
 use lib.Dec.{ltb, eqb}
 use lib.ListN.{length}
-use lib.Ieee.{Float}
-use Rattle.calendar.specs.declared.data.RegisterDay.{RegisterDay}
 use Rattle.reckoning.specs.Requests.{asRegisterDay}
 use Rattle.reckoning.specs.RefusalNumbers.{KIND, LENGTH, SYSTEM, TIME}
 use Rattle.day_fraction.specs.declared.Settled.{Settled}

@@ -2,7 +2,7 @@ use Prim.Native.Nat.{_+_, _<_}
 use mathlib.Core.Path.{_≡_, sym, subst}
 use native.Mathlib.Omega.{arith}
 use lib.Dec.{T}
-use lib.Ieee.{binary64, fits, ofBits}
+use lib.Ieee.{fits, ofBits}
 use Rattle.day_fraction.proofs.Product.{guessOf, sum-number, pattern-least, guess-small}
 use Rattle.day_fraction.specs.Settling.{countOf}
 use Rattle.day_fraction.proofs.Counting.{total}

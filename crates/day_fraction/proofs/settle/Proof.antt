@@ -1,9 +1,5 @@
-use mathlib.Core.Path.{sym, subst, ap, _∙_}
 use native.Mathlib.Omega.{arith}
-use lib.Dec.{T}
 use lib.Ieee.{ofBits}
-use borrow.Author.Tests.{lt-ltb, le-ltb}
-use Rattle.day_fraction.specs.Settling.{isFraction, settledOf}
 use Rattle.day_fraction.proofs.Ends.{is-fraction, no-parts, settled, below-zero, from-one}
 use Rattle.day_fraction.proofs.settle.Statement.{statement}
 use Rattle.day_fraction.proofs.settle.Tie as tie

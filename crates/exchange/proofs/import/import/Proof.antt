@@ -1,5 +1,4 @@
 use mathlib.Core.Path.{_≡_, sym, ap, _∙_}
-use native.Mathlib.Omega.{arith}
 use Rattle.exchange.specs.Systems.{partsInDay}
 use Rattle.exchange.specs.Import.{fractionAnswer, partsAnswer}
 use Rattle.exchange.proofs.Importing.{wrong-length, no-exchange, tagged-1, tagged-2, no-tag}

@@ -1,5 +1,4 @@
 use mathlib.Core.Path.{sym, ap, _∙_}
-use borrow.Author.Tests.{lt-ltb, le-ltb}
 use Rattle.exchange.specs.Import.{settledTime}
 use Rattle.exchange.proofs.Importing.{parts-below, parts-past}
 use borrow.Author.Needs.{needs}

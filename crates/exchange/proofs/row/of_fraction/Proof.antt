@@ -1,5 +1,4 @@
 use Rattle.exchange.proofs.Patterns.{pattern-fits, row-bytes}
-use mathlib.Core.Path.{_≡_, sym, ap, _∙_}
 use native.Mathlib.Omega.{arith}
 use borrow.Author.Needs.{needs}
 use Rattle.exchange.proofs.row.of_fraction.Statement.{statement}
