@@ -6,22 +6,19 @@ use native.Mathlib.Nat.{zero-mul, mul-le-mul-right, lt-of-mul-lt-mul-right}
 use native.Mathlib.Omega.{arith}
 use lib.Dec.{T}
 use lib.IntN.{pos}
-use lib.Ieee.{Float, fin, binary64, up, isNan, le, lt, fits, ofInt}
+use lib.Ieee.{Float, binary64, up, isNan, le, lt, fits, ofInt}
 use lib.Ieee.Fits.{and-i, div-fits}
 use lib.Ieee.Order.{round-mono}
 use lib.Ieee.Positive.{num, den, den-pos, through}
-use Rattle.day_fraction.specs.Fraction.{fractionOf}
+use Rattle.day_fraction.specs.Fraction.{fractionOf, zeroFloat, oneFloat}
 use Rattle.day_fraction.specs.Settling.{isFraction, notAbove, countOf}
 use Rattle.day_fraction.proofs.Sizes.{isSize, size-number, le→sizes, sizes→le, below-one}
-use Rattle.day_fraction.proofs.Rounding.{rounded, at-most, fraction-is}
+use Rattle.day_fraction.proofs.Rounding.{rounded, at-most}
 use Rattle.day_fraction.proofs.Exactness.{binary}
-use Rattle.day_fraction.proofs.Counts.{size, rises}
+use Rattle.day_fraction.proofs.Counts.{size, is-rounded, rises}
 use Rattle.day_fraction.proofs.Largest.{last-is}
 
 module _ (day : ℕ) (some : 0 < day) (few : day < 2 ^ 16) where
-  is-rounded : (parts : ℕ) → parts ≤ day → fractionOf day parts ≡ rounded parts day
-  is-rounded parts h = fraction-is day parts some (omega arith) (omega arith)
-
   module _ (parts : ℕ) (below : parts < day) where
     abbrev x : Float
     x = rounded parts day
@@ -41,7 +38,7 @@ module _ (day : ℕ) (some : 0 < day) (few : day < 2 ^ 16) where
         lt-of-mul-lt-mul-right (den y) (omega arith)
 
     pub fraction-number : T (not (isNan (fractionOf day parts)))
-    fraction-number = subst (λ f. T (not (isNan f))) (sym (is-rounded parts (omega arith))) (size-number x x-size)
+    fraction-number = subst (λ f. T (not (isNan f))) (sym (is-rounded day some few parts (omega arith))) (size-number x x-size)
 
     pub fraction-float : T (fits binary64 (fractionOf day parts))
     fraction-float = div-fits binary64 (ofInt binary64 (pos parts)) (ofInt binary64 (pos day))
@@ -49,9 +46,9 @@ module _ (day : ℕ) (some : 0 < day) (few : day < 2 ^ 16) where
     pub fraction-of-day : T (isFraction (fractionOf day parts))
     unfolding isFraction
     fraction-of-day =
-        subst (λ f. T (isFraction f)) (sym (is-rounded parts (omega arith)))
-        (and-i (le (fin false 0 (pos 0)) x) (lt x (fin false 1 (pos 0)))
-        (sizes→le (fin false 0 (pos 0)) x tt x-size (omega (arith, zero-mul (den x))))
+        subst (λ f. T (isFraction f)) (sym (is-rounded day some few parts (omega arith)))
+        (and-i (le zeroFloat x) (lt x oneFloat)
+        (sizes→le zeroFloat x tt x-size (omega (arith, zero-mul (den x))))
         (below-one x x-size x-below))
 
     -- Its own is not above it, and that of any larger count is.
@@ -59,7 +56,7 @@ module _ (day : ℕ) (some : 0 < day) (few : day < 2 ^ 16) where
     comes-back =
         last-is (notAbove day (fractionOf day parts)) day parts (
           below,
-          subst (λ f. T (le f f)) (sym (is-rounded parts (omega arith))) (sizes→le x x x-size x-size (omega arith)),
+          subst (λ f. T (le f f)) (sym (is-rounded day some few parts (omega arith))) (sizes→le x x x-size x-size (omega arith)),
           λ c after inside t. later c after inside t,
         )
       where
@@ -74,6 +71,6 @@ module _ (day : ℕ) (some : 0 < day) (few : day < 2 ^ 16) where
             in
             let back : num z * den x ≤ num x * den z =
             le→sizes z x z-size x-size
-            (subst (λ f. T (le f x)) (is-rounded c (omega arith)) (subst (λ f. T (le (fractionOf day c) f)) (is-rounded parts (omega arith)) t))
+            (subst (λ f. T (le f x)) (is-rounded day some few c (omega arith)) (subst (λ f. T (le (fractionOf day c) f)) (is-rounded day some few parts (omega arith)) t))
             in
             omega (arith, rises day some few parts below, through (num y) (num z) (num x) (den y) (den z) (den x) (den-pos z) up back)

@@ -6,8 +6,7 @@ use native.Mathlib.Omega.{arith}
 use lib.Dec.{T}
 use lib.IntN.{pos}
 use lib.Ieee.{Float, fin, binary64, ofInt, add, sub, div, le, fits}
-use Rattle.day_fraction.specs.Settling.{isFraction, countOf}
-use Rattle.day_fraction.specs.Guess.{bit}
+use Rattle.day_fraction.specs.Settling.{isFraction, countOf, bit}
 use Rattle.day_fraction.proofs.Product.{sumOf, guessOf, near, guess-float, next-float}
 use Rattle.day_fraction.proofs.Largest.{found, count-below}
 

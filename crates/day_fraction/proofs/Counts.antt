@@ -1,16 +1,18 @@
 -- The fractions of the counts of a day's parts, beside a fraction f: up to the count that f cuts down to they are not above
 -- f, and from the second after it on they are.
 use Prim.Native.Nat.{ℕ, _+_, _*_, _-_, _/_, _^_, _≤_, _<_}
+use mathlib.Core.Path.{_≡_}
 use native.Mathlib.Nat.{mul-pos, mul-le-mul-right, mul-lt-mul-of-pos-right, lt-of-mul-lt-mul-right, div-mul-le-self, lt-div-mul-add, div-lt-iff-lt-mul}
 use native.Mathlib.Omega.{arith}
 use lib.Dec.{T}
 use lib.Pow.{pow-pos}
 use lib.Ieee.{Float, binary64, fits, le}
 use lib.Ieee.Positive.{num, den, den-pos, through}
-use Rattle.day_fraction.specs.Guess.{cutOf}
+use Rattle.day_fraction.specs.Fraction.{fractionOf}
 use Rattle.day_fraction.proofs.Sizes.{isSize, le→sizes, sizes→le}
-use Rattle.day_fraction.proofs.Rounding.{rounded, rounded-size, at-most, at-least}
+use Rattle.day_fraction.proofs.Rounding.{rounded, rounded-size, at-most, at-least, fraction-is}
 use Rattle.day_fraction.proofs.Exactness.{binary, own}
+use Rattle.day_fraction.proofs.Cuts.{cutOf, cut-least, cut-most, cut-below}
 
 -- x / p is at most u / s, and y / q at least v / s, which is more.
 apart : (x p y q u v s : ℕ) → 0 < p → 0 < q → x * s ≤ u * p → v * q ≤ y * s → u < v → x * q < y * p
@@ -23,6 +25,10 @@ apart x p y q u v s p-some q-some low high h =
 module _ (d : ℕ) (some : 0 < d) (few : d < 2 ^ 16) where
   pub size : (c : ℕ) → c ≤ 2 * d → T (isSize (rounded c d))
   size c h = rounded-size c d 2 some (omega arith) h
+
+  -- The exported fraction is such a quotient.
+  pub is-rounded : (c : ℕ) → c ≤ 2 * d → fractionOf d c ≡ rounded c d
+  is-rounded c h = fraction-is d c some (omega arith) (omega arith)
 
   -- Between the fractions of a count and of the next lie two neighbours of the 2^53 equal parts of one, which are floats.
   pub rises : (c : ℕ) → c < d
@@ -43,36 +49,30 @@ module _ (d : ℕ) (some : 0 < d) (few : d < 2 ^ 16) where
     abbrev cut : ℕ
     cut = cutOf d f
 
-    cut-least : cut * den f ≤ num f * d
-    cut-least = div-mul-le-self (num f * d) (den f)
-
-    cut-most : num f * d < (cut + 1) * den f
-    cut-most = omega (arith, lt-div-mul-add {a = num f * d} (den-pos f))
-
-    pub cut-below : cut < d
-    cut-below = div-lt-iff-lt-mul (den-pos f) .1 (omega (arith, mul-lt-mul-of-pos-right below some))
+    inside : cut < d
+    inside = cut-below d f some below
 
     pub not-above : (c : ℕ) → c ≤ cut → T (le (rounded c d) f)
     not-above c h =
-        sizes→le (rounded c d) f (size c (omega (arith, cut-below))) f-size
-        (at-most c d (num f) (den f) some (den-pos f) (size c (omega (arith, cut-below))) (own f float f-size below)
-        (omega (arith, cut-least, mul-le-mul-right (den f) h)))
+        sizes→le (rounded c d) f (size c (omega (arith, inside))) f-size
+        (at-most c d (num f) (den f) some (den-pos f) (size c (omega (arith, inside))) (own f float f-size below)
+        (omega (arith, cut-least d f, mul-le-mul-right (den f) h)))
 
     pub above : (c : ℕ) → cut < c → c < d → T (le (rounded (c + 1) d) f) → ⊥
-    above c h inside t =
+    above c h within t =
         let x = rounded c d in
         let y = rounded (c + 1) d in
         let low = le→sizes y f (size (c + 1) (omega arith)) f-size t in
         let high =
         at-least c d (num f) (den f) some (den-pos f) (size c (omega arith)) (own f float f-size below)
-        (omega (arith, cut-most, mul-le-mul-right {m = cut + 1} {n = c} (den f) (omega arith)))
+        (omega (arith, cut-most d f, mul-le-mul-right {m = cut + 1} {n = c} (den f) (omega arith)))
         in
-        omega (arith, rises c inside, through (num y) (num f) (num x) (den y) (den f) (den x) (den-pos f) low high)
+        omega (arith, rises c within, through (num y) (num f) (num x) (den y) (den f) (den x) (den-pos f) low high)
 
     -- a whole day is above any fraction of it
     pub day-above : (c : ℕ) → d ≤ c → c ≤ 2 * d → T (le (rounded c d) f) → ⊥
-    day-above c h inside t =
+    day-above c h within t =
         let x = rounded c d in
-        let low = at-least c d 1 1 some (omega arith) (size c inside) (binary 1 0 (omega arith) (omega arith)) (omega arith) in
-        let high = le→sizes x f (size c inside) f-size t in
+        let low = at-least c d 1 1 some (omega arith) (size c within) (binary 1 0 (omega arith) (omega arith)) (omega arith) in
+        let high = le→sizes x f (size c within) f-size t in
         omega (arith, below, through 1 (num x) (num f) 1 (den x) (den f) (den-pos x) low high)

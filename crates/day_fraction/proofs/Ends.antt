@@ -4,14 +4,14 @@ use mathlib.Core.Path.{_≡_, ap}
 use mathlib.Core.Bool.{true, false, and-false}
 use native.Mathlib.Omega.{arith}
 use lib.Dec.{T, not-T}
-use lib.IntN.{pos}
-use lib.Ieee.{Float, fin, le, lt}
+use lib.Ieee.{Float, le, lt}
 use lib.Ieee.Bits.{is-true, is-false}
 use borrow.Author.Tests.{lt-ltb, le-ltb}
 use Rattle.day_fraction.specs.declared.Settled.the-variants.{None, Count}
+use Rattle.day_fraction.specs.Fraction.{zeroFloat, oneFloat}
 use Rattle.day_fraction.specs.Settling.{isFraction, countOf, settledOf}
 
-pub is-fraction : (f : Float) → le (fin false 0 (pos 0)) f ≡ true → lt f (fin false 1 (pos 0)) ≡ true → T (isFraction f)
+pub is-fraction : (f : Float) → le zeroFloat f ≡ true → lt f oneFloat ≡ true → T (isFraction f)
 unfolding isFraction
 is-fraction f least below = simp (least, below) tt
 
@@ -19,16 +19,11 @@ pub no-parts : (day : ℕ) (f : Float) → day ≡ 0 → None ≡ settledOf day 
 unfolding settledOf
 no-parts day f none = simp (le-ltb 0 day (omega arith))
 
-pub settled : (day : ℕ) (f : Float) {count : ℕ} → 0 < day → le (fin false 0 (pos 0)) f ≡ true → lt f (fin false 1 (pos 0)) ≡ true
-    → count ≡ countOf day f → Count count ≡ settledOf day f
-unfolding settledOf isFraction
-settled day f some least below is = simp (lt-ltb 0 day some, least, below) (ap Count is)
-
-pub below-zero : (day : ℕ) (f : Float) → le (fin false 0 (pos 0)) f ≡ false → None ≡ settledOf day f
+pub below-zero : (day : ℕ) (f : Float) → le zeroFloat f ≡ false → None ≡ settledOf day f
 unfolding settledOf isFraction
 below-zero day f below = simp (below, and-false)
 
-pub from-one : (day : ℕ) (f : Float) → lt f (fin false 1 (pos 0)) ≡ false → None ≡ settledOf day f
+pub from-one : (day : ℕ) (f : Float) → lt f oneFloat ≡ false → None ≡ settledOf day f
 unfolding settledOf isFraction
 from-one day f past = simp (past, and-false)
 

@@ -11,8 +11,8 @@ use lib.Ieee.Fits.{and-l, and-r}
 use Rattle.day_fraction.specs.declared.Settled.{Settled}
 use Rattle.day_fraction.specs.declared.Settled.the-variants.{None, Count}
 use Rattle.day_fraction.specs.Fraction.{fractionOf}
-use Rattle.day_fraction.specs.Settling.{isFraction, notAbove, settledOf}
-use Rattle.day_fraction.specs.Guess.{cutOf, bit}
+use Rattle.day_fraction.specs.Settling.{isFraction, notAbove, settledOf, bit}
+use Rattle.day_fraction.proofs.Cuts.{cutOf}
 use Rattle.day_fraction.proofs.Largest.{largest}
 use Rattle.day_fraction.proofs.Ends.{settled-fraction, settled-none}
 

@@ -7,10 +7,10 @@ use native.Mathlib.Decide.{decLt}
 use lib.Dec.{T}
 use lib.Ieee.{Float, binary64, fits, le}
 use Rattle.day_fraction.specs.Fraction.{fractionOf}
-use Rattle.day_fraction.specs.Settling.{isFraction, largestBelow, notAbove, countOf, IsLargest}
-use Rattle.day_fraction.specs.Guess.{cutOf, bit}
+use Rattle.day_fraction.specs.Settling.{isFraction, largestBelow, notAbove, countOf, IsLargest, bit}
 use Rattle.day_fraction.proofs.Sizes.{fraction-size}
-use Rattle.day_fraction.proofs.Rounding.{rounded, fraction-is}
+use Rattle.day_fraction.proofs.Rounding.{rounded}
+use Rattle.day_fraction.proofs.Cuts.{cutOf, cut-below}
 use Rattle.day_fraction.proofs.Counts as counts
 
 by-test : {P : Type 0} (b : Bool) → (T b → P) → ((T b → ⊥) → P) → P
@@ -73,37 +73,37 @@ module _ (day : ℕ) (some : 0 < day) (few : day < 2 ^ 16) (f : Float) (float : 
   abbrev cut : ℕ
   cut = cutOf day f
 
-  pub cut-below : cut < day
-  cut-below = counts.cut-below day some few f float (fraction-size f t .0) (fraction-size f t .1)
+  inside : cut < day
+  inside = cut-below day f some (fraction-size f t .1)
 
   is-rounded : (c : ℕ) → c ≤ 2 * day → fractionOf day c ≡ rounded c day
-  is-rounded c h = fraction-is day c some (omega arith) (omega arith)
+  is-rounded = counts.is-rounded day some few
 
   up-to : (c : ℕ) → c ≤ cut → T (p c)
   up-to c h =
-      subst (λ x. T (le x f)) (sym (is-rounded c (omega (arith, cut-below))))
+      subst (λ x. T (le x f)) (sym (is-rounded c (omega (arith, inside))))
       (counts.not-above day some few f float (fraction-size f t .0) (fraction-size f t .1) c h)
 
   day-past : (c : ℕ) → day ≤ c → c ≤ 2 * day → T (p c) → ⊥
-  day-past c h inside q =
-      counts.day-above day some few f float (fraction-size f t .0) (fraction-size f t .1) c h inside
-      (subst (λ x. T (le x f)) (is-rounded c inside) q)
+  day-past c h within q =
+      counts.day-above day some few f float (fraction-size f t .0) (fraction-size f t .1) c h within
+      (subst (λ x. T (le x f)) (is-rounded c within) q)
 
   past : (c : ℕ) → cut + 1 < c → c ≤ 2 * day → T (p c) → ⊥
-  past c h inside q =
+  past c h within q =
       elim (decLt c day) [
         | yes l ↦
             let before : c - 1 + 1 ≡ c = omega arith in
             counts.above day some few f float (fraction-size f t .0) (fraction-size f t .1) (c - 1) (omega arith) (omega arith)
-            (subst (λ x. T (le x f)) (is-rounded c inside ∙ ap (λ k. rounded k day) (sym before)) q)
-        | no l ↦ day-past c (omega arith) inside q
+            (subst (λ x. T (le x f)) (is-rounded c within ∙ ap (λ k. rounded k day) (sym before)) q)
+        | no l ↦ day-past c (omega arith) within q
       ]
 
   next-inside : T (p (cut + 1)) → cut + 1 < day
   next-inside q =
       elim (decLt (cut + 1) day) [
         | yes l ↦ l
-        | no l ↦ absurd (day-past (cut + 1) (omega arith) (omega (arith, cut-below)) q)
+        | no l ↦ absurd (day-past (cut + 1) (omega arith) (omega (arith, inside)) q)
       ]
 
   -- It is that count or the next.
@@ -114,7 +114,7 @@ module _ (day : ℕ) (some : 0 < day) (few : day < 2 ^ 16) (f : Float) (float : 
       last-is p day (cut + 1) (next-inside q, q, λ c after inside. past c after (omega arith))
       ∙ ap (λ n. cut + n) (sym (bit-true (p (cut + 1)) q)))
       (λ never.
-      last-is p day cut (cut-below, up-to cut (omega arith), λ c after inside. after-cut never c after inside)
+      last-is p day cut (inside, up-to cut (omega arith), λ c after inside. after-cut never c after inside)
       ∙ cut-alone (bit (p (cut + 1))) (bit-false (p (cut + 1)) never))
     where
       cut-alone : (n : ℕ) → n ≡ 0 → cut ≡ cut + n
@@ -134,7 +134,7 @@ module _ (day : ℕ) (some : 0 < day) (few : day < 2 ^ 16) (f : Float) (float : 
       elim (decLt cut guess) [
         | yes l ↦
             let is : guess ≡ cut + 1 = omega arith in
-            let none = bit-false (p (guess + 1)) (past (guess + 1) (omega arith) (omega (arith, cut-below))) in
+            let none = bit-false (p (guess + 1)) (past (guess + 1) (omega arith) (omega (arith, inside))) in
             omega (arith, largest, ap (λ k. bit (p k)) is)
         | no l ↦
             let is : guess ≡ cut = omega arith in
@@ -143,9 +143,9 @@ module _ (day : ℕ) (some : 0 < day) (few : day < 2 ^ 16) (f : Float) (float : 
       ]
 
   pub count-below : countOf day f < day
-  count-below = last-below p day cut cut-below (up-to cut (omega arith)) .0
+  count-below = last-below p day cut inside (up-to cut (omega arith)) .0
 
   pub count-is-largest : IsLargest day f (countOf day f)
   count-is-largest =
-      let last = last-below p day cut cut-below (up-to cut (omega arith)) in
+      let last = last-below p day cut inside (up-to cut (omega arith)) in
       record { below = last .0; not-above = last .1; none-larger = last .2 }

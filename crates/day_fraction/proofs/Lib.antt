@@ -3,6 +3,8 @@
 pub mod Sizes
 -- What is no fraction of a day.
 pub mod NoFractions
+-- The count that a fraction is cut down to.
+pub mod Cuts
 -- Quotients rounded once.
 pub mod Rounding
 -- Fractions that a float is exactly.

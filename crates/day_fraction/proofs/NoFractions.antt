@@ -11,6 +11,7 @@ use lib.IntN.{pos}
 use lib.Ieee.{Float, nan, inf, fin, up, down, le, lt}
 use lib.Ieee.Fits.{up-pos, down-pos, and-i}
 use lib.Ieee.Positive.{num, den}
+use Rattle.day_fraction.specs.Fraction.{zeroFloat, oneFloat}
 use Rattle.day_fraction.specs.Settling.{isFraction, NoFraction}
 use Rattle.day_fraction.proofs.Sizes.{isSize, le→sizes, sizes→le, fraction-size, below-one}
 
@@ -18,7 +19,7 @@ no-nan : T (isFraction nan) → ⊥
 unfolding isFraction le
 no-nan t = t
 
-below-zero : (f : Float) → T (isSize f) → T (lt f (fin false 0 (pos 0))) → ⊥
+below-zero : (f : Float) → T (isSize f) → T (lt f zeroFloat) → ⊥
 unfolding lt
 below-zero nan s h = s
 below-zero (inf b) s h = s
@@ -35,8 +36,8 @@ by-fraction (inf false) is isnt = isnt (inr (inr tt))
 by-fraction (fin true zero e) is isnt =
     let f = fin true zero e in
     is
-    (and-i (le (fin false 0 (pos 0)) f) (lt f (fin false 1 (pos 0)))
-    (sizes→le (fin false 0 (pos 0)) f tt tt (omega (arith, zero-mul (down e))))
+    (and-i (le zeroFloat f) (lt f oneFloat)
+    (sizes→le zeroFloat f tt tt (omega (arith, zero-mul (down e))))
     (below-one f tt (omega (arith, zero-mul (up e), down-pos e))))
 by-fraction (fin true (suc m) e) is isnt =
     isnt
@@ -46,10 +47,10 @@ by-fraction (fin false m e) is isnt =
     elim (decLt (m * up e) (down e)) [
       | yes h ↦
           is
-          (and-i (le (fin false 0 (pos 0)) f) (lt f (fin false 1 (pos 0)))
-          (sizes→le (fin false 0 (pos 0)) f tt tt (omega (arith, zero-mul (down e))))
+          (and-i (le zeroFloat f) (lt f oneFloat)
+          (sizes→le zeroFloat f tt tt (omega (arith, zero-mul (down e))))
           (below-one f tt h))
-      | no h ↦ isnt (inr (inr (sizes→le (fin false 1 (pos 0)) f tt tt (omega arith))))
+      | no h ↦ isnt (inr (inr (sizes→le oneFloat f tt tt (omega arith))))
     ]
 
 -- Nothing is both.
@@ -60,5 +61,5 @@ never-both f t none =
     (λ other. ⊎-elim (below-zero f (fraction-size f t .0)) (λ h. from-one (fraction-size f t) h) other)
     none
   where
-    from-one : T (isSize f) × (num f < den f) → T (le (fin false 1 (pos 0)) f) → ⊥
-    from-one s h = omega (arith, s .1, le→sizes (fin false 1 (pos 0)) f tt (s .0) h)
+    from-one : T (isSize f) × (num f < den f) → T (le oneFloat f) → ⊥
+    from-one s h = omega (arith, s .1, le→sizes oneFloat f tt (s .0) h)

@@ -2,7 +2,7 @@
 use Prim.Native.Nat.{ℕ, zero, suc, _+_, _*_, _-_, _/_, _^_, _≤_, _<_}
 use mathlib.Core.Path.{_≡_, refl, sym, ap, ap₂, subst, _∙_}
 use mathlib.Core.Bool.{true, false, not, true≢false}
-use native.Mathlib.Nat.{le-trans, le-of-eq, lt-of-lt-of-le, not-le-of-lt, div-one, mul-pos, mul-le-mul-right, zero-mul, div-le-self, div-mul-le-self, lt-div-mul-add, div-lt-iff-lt-mul}
+use native.Mathlib.Nat.{le-trans, le-of-eq, lt-of-lt-of-le, not-le-of-lt, div-one, mul-pos, mul-le-mul-right, zero-mul, div-le-self}
 use native.Mathlib.Omega.{arith}
 use lib.Dec.{T, eqb→eq}
 use lib.IntN.{pos, negsuc}
@@ -16,8 +16,8 @@ use lib.Ieee.Exact.{HasValue, round-exact}
 use lib.Ieee.Positive.{num, den, den-pos}
 use lib.Ieee.Scale.{round-same}
 use Rattle.day_fraction.specs.Settling.{isFraction}
-use Rattle.day_fraction.specs.Guess.{cutOf, NearCut}
 use Rattle.day_fraction.proofs.Sizes.{isSize, size-number, fraction-size}
+use Rattle.day_fraction.proofs.Cuts.{cutOf, NearCut, cut-least, cut-most, cut-below}
 use Rattle.day_fraction.proofs.Exactness.{digits}
 use Rattle.day_fraction.proofs.Rounding.{rounded, rounded-size, at-most, at-least, whole}
 
@@ -41,9 +41,9 @@ between-rounded day f p below some few is =
     let a = num f * day in
     let b = den f in
     let cut = cutOf day f in
-    let low : cut * b ≤ a = div-mul-le-self a b in
-    let high : a < cut * b + b = lt-div-mul-add {a = a} (den-pos f) in
-    let inside : cut < day = div-lt-iff-lt-mul (den-pos f) .1 (omega (arith, mul-le-mul-right day below)) in
+    let low = cut-least day f in
+    let high = cut-most day f in
+    let inside = cut-below day f some below in
     let finite : T (isSize (rounded a b)) = rounded-size a b day (den-pos f) (omega arith) (omega (arith, mul-le-mul-right day below)) in
     subst (Between day f) (sym is)
     (record {
@@ -183,7 +183,7 @@ module _ (day : ℕ) (f : Float) (some : 0 < day) (few : day < 2 ^ 16) (t : T (i
   between = product day f (rounded day 1) (fraction-size f t .0) (fraction-size f t .1) some few (whole day (omega arith))
 
   inside : cutOf day f < day
-  inside = div-lt-iff-lt-mul (den-pos f) .1 (omega (arith, mul-le-mul-right day (fraction-size f t .1)))
+  inside = cut-below day f some (fraction-size f t .1)
 
   -- The sum lies between that count and the next, too, each with 2^52 added.
   abbrev a : ℕ

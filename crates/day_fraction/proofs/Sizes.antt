@@ -8,11 +8,12 @@ use native.Mathlib.Decide.{decLt}
 use lib.Dec.{T, ltb, eqb, eqb→eq, ltb→lt, lt→ltb}
 use lib.IntN.{pos}
 use lib.Ieee.{Float, nan, inf, fin, up, down, isNan, le, lt}
-use lib.Ieee.Fits.{up-pos, down-pos, and-l, and-r, eq→eqb}
+use lib.Ieee.Fits.{up-pos, down-pos, and-l, and-r, and-i, eq→eqb}
 use lib.Ieee.Positive.{num, den}
+use Rattle.day_fraction.specs.Fraction.{zeroFloat, oneFloat}
 use Rattle.day_fraction.specs.Settling.{isFraction}
 
--- Finite and not below zero; negative zero is not.
+-- Finite and not below zero, negative zero among them.
 abbrev pub isSize : Float → Bool
 isSize nan = false
 isSize (inf s) = false
@@ -62,10 +63,6 @@ level-of : (x y : Bool) → T y → T (x || y)
 level-of true y t = tt
 level-of false y t = t
 
-and-true : (x y : Bool) → T x → T y → T (x && y)
-and-true true y t u = u
-and-true false y t u = absurd t
-
 pub sizes→le : (x y : Float) → T (isSize x) → T (isSize y) → num x * den y ≤ num y * den x → T (le x y)
 unfolding le
 sizes→le nan y p q h = absurd p
@@ -77,13 +74,13 @@ sizes→le (fin false m e) (fin false n d) p q h =
     let b = n * up d * down e in
     elim (decLt a b) [
       | yes l ↦ below-of-lt a b (eqb a b && true) l
-      | no l ↦ level-of (ltb a b) (eqb a b && true) (and-true (eqb a b) true (eq→eqb {a = a} {b = b} (omega arith)) tt)
+      | no l ↦ level-of (ltb a b) (eqb a b && true) (and-i (eqb a b) true (eq→eqb {a = a} {b = b} (omega arith)) tt)
     ]
 sizes→le (fin false m e) (fin true n d) p q h =
     let a = m * up e * down d in
     let b = n * up d * down e in
     let z = none n (up d) (down e) q in
-    and-true (eqb a b) (eqb a 0) (eq→eqb {a = a} {b = b} (omega arith)) (eq→eqb {a = a} {b = 0} (omega arith))
+    and-i (eqb a b) (eqb a 0) (eq→eqb {a = a} {b = b} (omega arith)) (eq→eqb {a = a} {b = 0} (omega arith))
 sizes→le (fin true m e) (fin false n d) p q h =
     let a = m * up e * down d in
     let b = n * up d * down e in
@@ -92,14 +89,14 @@ sizes→le (fin true m e) (fin false n d) p q h =
       | yes l ↦ below-of-lt 0 (a + b) (eqb a b && eqb a 0) (omega arith)
       | no l ↦
           level-of (ltb 0 (a + b)) (eqb a b && eqb a 0)
-          (and-true (eqb a b) (eqb a 0) (eq→eqb {a = a} {b = b} (omega arith)) (eq→eqb {a = a} {b = 0} (omega arith)))
+          (and-i (eqb a b) (eqb a 0) (eq→eqb {a = a} {b = b} (omega arith)) (eq→eqb {a = a} {b = 0} (omega arith)))
     ]
 sizes→le (fin true m e) (fin true n d) p q h =
     let a = m * up e * down d in
     let b = n * up d * down e in
     let y = none m (up e) (down d) p in
     let z = none n (up d) (down e) q in
-    level-of (ltb b a) (eqb a b && true) (and-true (eqb a b) true (eq→eqb {a = a} {b = b} (omega arith)) tt)
+    level-of (ltb b a) (eqb a b && true) (and-i (eqb a b) true (eq→eqb {a = a} {b = b} (omega arith)) tt)
 
 -- A fraction of a day is one of them, and below one.
 pub fraction-size : (f : Float) → T (isFraction f) → T (isSize f) × (num f < den f)
@@ -110,18 +107,18 @@ fraction-size (inf false) t = absurd t
 fraction-size (fin false m e) t =
     let a = m * up e * 1 in
     let b = 1 * 1 * down e in
-    let below = ltb→lt a b (and-r (le (fin false 0 (pos 0)) (fin false m e)) (ltb a b) t) in
+    let below = ltb→lt a b (and-r (le zeroFloat (fin false m e)) (ltb a b) t) in
     (tt, omega arith)
 fraction-size (fin true zero e) t = (tt, omega (arith, zero-mul (up e), down-pos e))
 fraction-size (fin true (suc m) e) t =
     let a = 0 * 1 * down e in
     let b = suc m * up e * 1 in
-    let level = and-l (eqb a b && eqb a 0) (lt (fin true (suc m) e) (fin false 1 (pos 0))) t in
+    let level = and-l (eqb a b && eqb a 0) (lt (fin true (suc m) e) oneFloat) t in
     let same = eqb→eq a b (and-l (eqb a b) (eqb a 0) level) in
     absurd (omega (arith, zero-mul (down e), mul-pos {m = suc m} {n = up e} (omega arith) (up-pos e)))
 
 -- And what is one of them and below one.
-pub below-one : (x : Float) → T (isSize x) → num x < den x → T (lt x (fin false 1 (pos 0)))
+pub below-one : (x : Float) → T (isSize x) → num x < den x → T (lt x oneFloat)
 unfolding lt
 below-one nan s h = absurd s
 below-one (inf b) s h = absurd s

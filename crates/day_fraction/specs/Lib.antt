@@ -1,7 +1,5 @@
 -- A time of day as a fraction of the day, a 64-bit float.
 -- The fraction of a count of parts.
 pub mod Fraction
--- The count that a fraction settles to.
+-- What is a fraction of a day, and the count that it settles to.
 pub mod Settling
--- The count that it is cut down to.
-pub mod Guess

@@ -32,6 +32,6 @@ by-exchange system has none =
           ]
     ]
 
--- One that has none cannot have any parts.
+-- The same of one that has an exchange.
 pub exchange-inside : (system : ℕ) → HasExchange system → (0 < partsInDay system) × (partsInDay system < 2 ^ 16)
 exchange-inside system has = by-exchange system (λ h some few. (some, few)) (λ never z. absurd (never has))

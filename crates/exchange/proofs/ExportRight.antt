@@ -14,26 +14,22 @@ use Rattle.day_fraction.specs.Fraction.{fractionOf}
 use Rattle.day_fraction.proofs.Rounding.{fraction-is}
 use Rattle.exchange.specs.Systems.{HasExchange, partsInDay}
 use Rattle.exchange.specs.Row.{rowOf}
-use Rattle.exchange.specs.RowRefusals.{exportRows}
+use Rattle.exchange.specs.ExchangeRefusals.{exportRefusals}
 use Rattle.exchange.specs.Export.{exportRefusal, exportAnswer, exportedInto}
 use Rattle.exchange.specs.Outcomes.{ExportOutcome}
-use Rattle.exchange.proofs.DayParts.{by-exchange}
+use Rattle.exchange.proofs.DayParts.{by-exchange, exchange-inside}
 use Rattle.exchange.proofs.Exporting.{no-exchange, no-time, no-room, none, refused, whole-parts, units-cut, written}
-
-positive : (n : ℕ) → (n ≡ 0 → ⊥) → 0 < n
-positive n some = elim (ℕ-discrete n 0) [ yes z ↦ absurd (some z) | no h ↦ omega arith ]
 
 -- "Each fraction one division of the parts by D, rounded once."
 pub rounded-once : (system parts : ℕ) → HasExchange system → parts < partsInDay system
     → fractionOf (partsInDay system) parts ≡ round binary64 false parts (partsInDay system)
 rounded-once system parts has below =
-    by-exchange system
-    (λ h some few. fraction-is (partsInDay system) parts some (omega arith) (omega arith))
-    (λ never z. absurd (never has))
+    let inside = exchange-inside system has in
+    fraction-is (partsInDay system) parts (inside .0) (omega (arith, inside .1)) (omega (arith, inside .1))
 
 -- Whatever the numbers, the export gives the first refusal that applies, and 0 where none does.
 module _ (system parts room : ℕ) where
-  pub export-refusal-is-the-first : FirstOf (exportRows system parts room) (exportRefusal system parts room)
+  pub export-refusal-is-the-first : FirstOf (exportRefusals system parts room) (exportRefusal system parts room)
   export-refusal-is-the-first =
       by-exchange system
       (λ has some few.
@@ -79,14 +75,14 @@ module _ (system day parts units : ℕ) (before : List ℕ) where
       gave some =
           let end = refused system day parts units before refusal refl some in
           let number : answer ≡ refusal * 2 ^ 32 = omega (arith, end .0) in
-          ExportOutcome.refused refusal (positive refusal some) (export-refusal-is-the-first system parts (length before)) number (sym (end .1))
+          ExportOutcome.refused refusal (omega (arith, some)) (export-refusal-is-the-first system parts (length before)) number (sym (end .1))
 
       wrote : refusal ≡ 0 → ExportOutcome system day parts units before answer after
       wrote accepted =
           let inside = accepted-inside system parts (length before) accepted in
           let f = fractionOf (partsInDay system) parts in
           ExportOutcome.exported
-          (subst (FirstOf (exportRows system parts (length before))) accepted (export-refusal-is-the-first system parts (length before)))
+          (subst (FirstOf (exportRefusals system parts (length before))) accepted (export-refusal-is-the-first system parts (length before)))
           (λ z. sym (whole-parts system parts units (length before) accepted z))
           (λ some. sym (units-cut system parts units (length before) accepted some))
           (sym (written system day parts before accepted {row = rowOf day f} refl)

@@ -44,7 +44,7 @@ module _ (system parts units room : ℕ) where
   unfolding exportAnswer
   units-cut accepted some = simp (eq-eqb refusal 0 accepted, ne-eqb units 0 some) (omega (arith, accepted))
 
-  pub told : (number : ℕ) → refusal ≡ number → (number ≡ 0 → ⊥) → 2 ^ 32 * number ≡ exportAnswer system parts units room
+  told : (number : ℕ) → refusal ≡ number → (number ≡ 0 → ⊥) → 2 ^ 32 * number ≡ exportAnswer system parts units room
   unfolding exportAnswer
   told number is some = simp (ne-eqb refusal 0 (λ z. some (sym is ∙ z))) (omega (arith, is))
 
@@ -53,7 +53,7 @@ module _ (system day parts : ℕ) (before : List ℕ) where
   abbrev refusal-here : ℕ
   refusal-here = exportRefusal system parts (length before)
 
-  pub left-alone : (refusal-here ≡ 0 → ⊥) → before ≡ exportedInto system day parts before
+  left-alone : (refusal-here ≡ 0 → ⊥) → before ≡ exportedInto system day parts before
   unfolding exportedInto
   left-alone some = simp (ne-eqb refusal-here 0 some)
 

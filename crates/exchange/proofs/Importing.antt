@@ -18,7 +18,7 @@ use Rattle.day_fraction.proofs.Ends.{below-zero}
 use Rattle.exchange.specs.declared.data.Imported.{Imported}
 use Rattle.exchange.specs.declared.data.Imported.the-variants.{Refused, Row}
 use Rattle.exchange.specs.Systems.{partsInDay}
-use Rattle.exchange.specs.Row.{dayField, tagField, patternField, partsField, fillerField, ReadTime}
+use Rattle.exchange.specs.Row.{dayField, tagField, patternField, partsField, fillerField}
 use Rattle.exchange.specs.Import.{settledTime, answerOf, answerWith, fractionAnswer, partsAnswer, importOf, tagOf, importAnswer}
 use Rattle.exchange.proofs.Patterns.{no-number}
 
@@ -54,13 +54,13 @@ module _ (inDay : ℕ) (s : List ℕ) where
   read-parts none day field is =
       is ∙ ap₂ (λ r n. answerOf inDay r (Parts n)) day field ∙ simp (eq-eqb (fillerField s) 0 none)
 
-  pub not-below : {time : ℕ} → ReadTime s time → inDay ≤ time → Refused TIME ≡ partsAnswer inDay s
-  not-below {time} read h =
+  pub not-below : {time : ℕ} → time ≡ patternField s → inDay ≤ time → Refused TIME ≡ partsAnswer inDay s
+  not-below {time} is h =
       elim (decLt 0 (fillerField s)) [
         | yes some ↦ simp (ne-eqb (fillerField s) 0 (λ z. omega arith))
         | no none ↦
             let zero : fillerField s ≡ 0 = omega arith in
-            let past : inDay ≤ partsField s = omega (arith, time-split s, read .is-pattern) in
+            let past : inDay ≤ partsField s = omega (arith, time-split s) in
             simp (eq-eqb (fillerField s) 0 zero, le-ltb (partsField s) inDay past)
       ]
 

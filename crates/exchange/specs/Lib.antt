@@ -5,7 +5,7 @@ pub mod Systems
 -- The fields of a row, and the row of a fraction.
 pub mod Row
 -- When each numbered refusal applies, in the paper's order.
-pub mod RowRefusals
+pub mod ExchangeRefusals
 -- What an export answers and writes, for every input and output.
 pub mod Export
 -- What an import answers, for every input.

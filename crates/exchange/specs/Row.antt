@@ -1,6 +1,5 @@
 -- A row of the observatory's list: paper 02, Q-11. It has 13 bytes, and numbers are little-endian.
-use Prim.Native.Nat.{ℕ, _+_, _*_, _<_}
-use mathlib.Core.Path.{_≡_}
+use Prim.Native.Nat.{ℕ, _+_, _*_}
 use mathlib.Core.List.{List, _∷_, _++_}
 use lib.Ieee.{Float, binary64, ofBits, toBits}
 use Rattle.little_endian.specs.Bytes.{byte}
@@ -31,8 +30,3 @@ fillerField s = le16 (byte s 7) (byte s 8) + 65_536 * le32 (byte s 9) (byte s 10
 -- "Export always writes tag 1."
 abbrev pub rowOf : ℕ → Float → List ℕ
 rowOf day fraction = bytes4 day ++ (1 ∷ bytes8 (toBits binary64 fraction))
-
--- The eight bytes of the time as one number are the pattern, and the parts with the filler above them.
-pub record ReadTime (s : List ℕ) (time : ℕ) : Type 0 where
-  pub is-pattern : time ≡ patternField s
-  pub parts-below : partsField s < 65_536

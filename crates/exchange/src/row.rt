@@ -5,7 +5,7 @@ ghost use Prim.Native.Nat.{_≤_};
 ghost use lib.Dec.{T};
 ghost use lib.Ieee.{isNan};
 ghost use lib.ListN.{length};
-ghost use Rattle.exchange.specs.Row.{dayField, rowOf, ReadTime};
+ghost use Rattle.exchange.specs.Row.{dayField, patternField, rowOf};
 use calendar::data::RegisterDay;
 use little_endian::bytes4;
 use little_endian::le32;
@@ -25,10 +25,10 @@ pub(crate) fn day(row: &[u8]) -> RegisterDay
     RegisterDay(le32(row[0], row[1], row[2], row[3]))
 }
 
-// The eight bytes of the time, as one number.
+// The eight bytes of the time as one number: the bit pattern of a fraction, or the parts with the filler above them.
 pub(crate) fn time(row: &[u8]) -> u64
     requires { ⌜ 13 ≤ length (now row) ⌝ }
-    ensures { λ r. ⌜ ReadTime (now (row .entry)) r ⌝ }
+    ensures { λ r. ⌜ r ≡ patternField (now (row .entry)) ⌝ }
 {
     le64(
         row[5],

@@ -4,7 +4,7 @@ use mathlib.Core.Path.{_≡_}
 use native.Mathlib.Nat.{div-div-eq-div-mul, div-add-mod', mod-eq-of-lt}
 use native.Mathlib.Omega.{arith}
 use Rattle.little_endian.specs.Bytes.{byte}
-use Rattle.little_endian.specs.Number.{le32, bytes4}
+use Rattle.little_endian.specs.Number.{le32, le64, bytes4, bytes8}
 
 -- One byte after another.
 joined : (n q1 q2 q3 b0 b1 b2 b3 : ℕ) → q1 * 256 + b0 ≡ n → q2 * 256 + b1 ≡ q1 → q3 * 256 + b2 ≡ q2 → b3 ≡ q3
@@ -23,10 +23,10 @@ read-back-4 n h =
     (omega (arith, div-add-mod' (n / 65_536) 256))
     (mod-eq-of-lt (omega arith))
 
--- and of twice four.
+-- and of eight.
 pub read-back-8 : (n : ℕ) → n < 2 ^ 64
-    → le32 (byte (bytes4 (n % 2 ^ 32)) 0) (byte (bytes4 (n % 2 ^ 32)) 1) (byte (bytes4 (n % 2 ^ 32)) 2) (byte (bytes4 (n % 2 ^ 32)) 3)
-    + 2 ^ 32 * le32 (byte (bytes4 (n / 2 ^ 32)) 0) (byte (bytes4 (n / 2 ^ 32)) 1) (byte (bytes4 (n / 2 ^ 32)) 2) (byte (bytes4 (n / 2 ^ 32)) 3)
+    → le64 (byte (bytes8 n) 0) (byte (bytes8 n) 1) (byte (bytes8 n) 2) (byte (bytes8 n) 3)
+    (byte (bytes8 n) 4) (byte (bytes8 n) 5) (byte (bytes8 n) 6) (byte (bytes8 n) 7)
     ≡ n
 read-back-8 n h =
     let low : n % 2 ^ 32 < 2 ^ 32 = omega arith in

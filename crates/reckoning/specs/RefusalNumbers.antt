@@ -14,7 +14,7 @@ KIND = 2
 abbrev pub LENGTH : ℕ
 LENGTH = 3
 
--- There is no such system.
+-- There is no such system, or it has no rule for what is asked.
 abbrev pub SYSTEM : ℕ
 SYSTEM = 4
 

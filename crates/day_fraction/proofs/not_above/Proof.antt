@@ -1,5 +1,5 @@
 use mathlib.Core.Path.{sym, ap}
-use Rattle.day_fraction.specs.Guess.{bit}
+use Rattle.day_fraction.specs.Settling.{bit}
 use Rattle.day_fraction.proofs.not_above.Statement.{statement}
 use Rattle.day_fraction.proofs.not_above.Tie as tie
 

@@ -1,6 +1,8 @@
+use mathlib.Core.Path.{ap, _∙_}
 use native.Mathlib.Omega.{arith}
 use lib.Ieee.{ofBits}
-use Rattle.day_fraction.proofs.Ends.{is-fraction, no-parts, settled, below-zero, from-one}
+use Rattle.day_fraction.specs.declared.Settled.the-variants.{Count}
+use Rattle.day_fraction.proofs.Ends.{is-fraction, no-parts, settled-fraction, below-zero, from-one}
 use Rattle.day_fraction.proofs.settle.Statement.{statement}
 use Rattle.day_fraction.proofs.settle.Tie as tie
 
@@ -15,7 +17,8 @@ returns-2 : tie.Need-returns-2
 unfolding ofBits
 returns-2 c =
     let inside = c .before in
-    settled _ _ (omega (arith, inside .before .before .if1 .left)) (inside .before .if2 .taken) (inside .if3 .taken) (c .count .ensures)
+    ap Count (c .count .ensures)
+    ∙ settled-fraction _ _ (omega (arith, inside .before .before .if1 .left)) (is-fraction _ (inside .before .if2 .taken) (inside .if3 .taken))
 
 returns-3 : tie.Need-returns-3
 unfolding ofBits

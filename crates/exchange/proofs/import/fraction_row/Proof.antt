@@ -27,13 +27,13 @@ returns c =
     let day = c .before in
     let read = day .before .before .before in
     let start = read .before .before in
-    read-fraction (start .args .in-day) (start .args .row .now) (day .day .ensures) (read .time .ensures .is-pattern) (c .answer .ensures)
+    read-fraction (start .args .in-day) (start .args .row .now) (day .day .ensures) (read .time .ensures) (c .answer .ensures)
 
 returns-2 : tie.Need-returns-2
 returns-2 c =
     let read = c .before .before in
     let start = read .before .before in
-    not-a-number (start .args .in-day) (start .args .row .now) (read .time .ensures .is-pattern)
+    not-a-number (start .args .in-day) (start .args .row .now) (read .time .ensures)
     (sym (c .before .is-number .ensures) ∙ c .if1 .left)
 
 pub fraction-row-spec : {M : Type 1} → statement M

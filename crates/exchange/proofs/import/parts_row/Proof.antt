@@ -23,7 +23,7 @@ returns c =
     let read = tested .before in
     let start = read .before .before in
     let row = start .args .row .now in
-    let is = read .time .ensures .is-pattern in
+    let is = read .time .ensures in
     let below = tested .if1 .taken in
     let fits = start .fits .in-day .fits in
     read-parts (start .args .in-day) row (omega (arith, time-split row)) (day .day .ensures)
