@@ -14,6 +14,7 @@ use little_endian::le64;
 // Bytes in a row.
 pub(crate) const SIZE: usize = 13;
 
+// Tags: how a time is written.
 pub(crate) const FRACTION: u8 = 1;
 
 pub(crate) const PARTS: u8 = 2;
