@@ -14,6 +14,8 @@ use little_endian::le64;
 // Bytes in a row.
 pub(crate) const SIZE: usize = 13;
 
+pub(crate) type Row = [u8; SIZE];
+
 // Tags: how a time is written.
 pub(crate) const FRACTION: u8 = 1;
 
@@ -44,7 +46,7 @@ pub(crate) fn time(row: &[u8]) -> u64
 }
 
 // The row of a fraction.
-pub(crate) fn of_fraction(day: RegisterDay, fraction: f64) -> [u8; 13]
+pub(crate) fn of_fraction(day: RegisterDay, fraction: f64) -> Row
     requires { ⌜ T (not (isNan fraction)) ⌝ }
     ensures { λ r. ⌜ r ≡ rowOf (day .0) fraction ⌝ }
 {

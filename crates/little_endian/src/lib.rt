@@ -28,8 +28,10 @@ pub fn le64(b0: u8, b1: u8, b2: u8, b3: u8, b4: u8, b5: u8, b6: u8, b7: u8) -> u
     le32(b0, b1, b2, b3) as u64 + 4_294_967_296 * le32(b4, b5, b6, b7) as u64
 }
 
-// A number's four bytes.
-pub fn bytes4(n: u32) -> [u8; 4]
+pub type FourBytes = [u8; 4];
+
+// The bytes of a number.
+pub fn bytes4(n: u32) -> FourBytes
     ensures { λ r. ⌜ r ≡ bytes4 n ⌝ }
 {
     [
