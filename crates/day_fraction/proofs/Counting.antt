@@ -7,7 +7,7 @@ use lib.Dec.{T}
 use lib.IntN.{pos}
 use lib.Ieee.{Float, fin, binary64, ofInt, add, sub, div, le, fits}
 use Rattle.day_fraction.specs.Settling.{isFraction, countOf, bit}
-use Rattle.day_fraction.proofs.Product.{sumOf, guessOf, near, guess-float, next-float}
+use Rattle.day_fraction.proofs.Guessing.{sumOf, guessOf, near, guess-float, next-float}
 use Rattle.day_fraction.proofs.Largest.{found, count-below}
 
 module _ (day : ℕ) (f : Float) (some : 0 < day) (few : day < 2 ^ 16) (float : T (fits binary64 f)) (t : T (isFraction f)) where

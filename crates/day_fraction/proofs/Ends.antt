@@ -1,6 +1,6 @@
 -- What the code settles a fraction to, by its tests.
 use Prim.Native.Nat.{ℕ, _<_}
-use mathlib.Core.Path.{_≡_, ap}
+use mathlib.Core.Path.{_≡_}
 use mathlib.Core.Bool.{true, false, and-false}
 use native.Mathlib.Omega.{arith}
 use lib.Dec.{T, not-T}

@@ -13,8 +13,12 @@ pub mod Exactness
 pub mod Counts
 -- The largest count whose fraction is not above another.
 pub mod Largest
--- A fraction of a day times the parts of a day.
+-- A fraction of a day times the parts in a day.
 pub mod Product
+-- Floats from 2^52 up to 2^53.
+pub mod WholeFloats
+-- The code's guess.
+pub mod Guessing
 -- What the code settles a fraction to, by its tests.
 pub mod Ends
 -- The exported fraction of a count settles to that count.

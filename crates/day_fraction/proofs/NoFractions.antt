@@ -1,19 +1,18 @@
 -- What is no fraction of a day: not a number, below zero, or not below one.
 use Prim.Native.Nat.{zero, suc, _+_, _*_, _<_}
-use mathlib.Core.Path.{refl, ap, subst}
+use mathlib.Core.Path.{refl, subst}
 use mathlib.Core.Logic.{inl, inr, ⊎-elim}
 use mathlib.Core.Bool.{true, false}
 use native.Mathlib.Nat.{zero-mul, mul-pos}
 use native.Mathlib.Omega.{arith}
 use native.Mathlib.Decide.{decLt}
-use lib.Dec.{T, eqb→eq, lt→ltb, ltb→lt}
-use lib.IntN.{pos}
+use lib.Dec.{T, lt→ltb, ltb→lt}
 use lib.Ieee.{Float, nan, inf, fin, up, down, le, lt}
 use lib.Ieee.Fits.{up-pos, down-pos, and-i}
 use lib.Ieee.Positive.{num, den}
 use Rattle.day_fraction.specs.Fraction.{zeroFloat, oneFloat}
 use Rattle.day_fraction.specs.Settling.{isFraction, NoFraction}
-use Rattle.day_fraction.proofs.Sizes.{isSize, le→sizes, sizes→le, fraction-size, below-one}
+use Rattle.day_fraction.proofs.Sizes.{isSize, no-digits, le→sizes, sizes→le, fraction-size, below-one}
 
 no-nan : T (isFraction nan) → ⊥
 unfolding isFraction le
@@ -25,7 +24,7 @@ below-zero nan s h = s
 below-zero (inf b) s h = s
 below-zero (fin false m e) s h = omega (arith, ltb→lt (m * up e * 1) (0 * 1 * down e) h, zero-mul (down e))
 below-zero (fin true m e) s h =
-    omega (arith, ltb→lt 0 (m * up e * 1 + 0 * 1 * down e) h, ap (λ i. i * up e) (eqb→eq m 0 s), zero-mul (up e), zero-mul (down e))
+    omega (arith, ltb→lt 0 (m * up e * 1 + 0 * 1 * down e) h, no-digits m (up e) s, zero-mul (down e))
 
 -- A float is a fraction of a day, or one of those.
 pub by-fraction : {P : Type 0} (f : Float) → (T (isFraction f) → P) → (NoFraction f → P) → P

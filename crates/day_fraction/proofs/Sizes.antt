@@ -6,7 +6,6 @@ use native.Mathlib.Nat.{zero-mul, mul-pos}
 use native.Mathlib.Omega.{arith}
 use native.Mathlib.Decide.{decLt}
 use lib.Dec.{T, ltb, eqb, eqb→eq, ltb→lt, lt→ltb}
-use lib.IntN.{pos}
 use lib.Ieee.{Float, nan, inf, fin, up, down, isNan, le, lt}
 use lib.Ieee.Fits.{up-pos, down-pos, and-l, and-r, and-i, eq→eqb}
 use lib.Ieee.Positive.{num, den}
@@ -26,9 +25,12 @@ size-number nan s = absurd s
 size-number (inf b) s = absurd s
 size-number (fin b m e) s = tt
 
--- A product with no first factor.
+-- With no digits it is zero.
+pub no-digits : (m x : ℕ) → T (eqb m 0) → m * x ≡ 0
+no-digits m x t = ap (λ k. k * x) (eqb→eq m 0 t) ∙ zero-mul x
+
 none : (m x y : ℕ) → T (eqb m 0) → m * x * y ≡ 0
-none m x y t = ap (λ k. k * x * y) (eqb→eq m 0 t) ∙ ap (λ k. k * y) (zero-mul x) ∙ zero-mul y
+none m x y t = ap (λ k. k * y) (no-digits m x t) ∙ zero-mul y
 
 below-or-level : (a b : ℕ) (x y : Bool) → (T x → a < b) → (T y → a ≡ b) → T (x || (y && true)) → a ≤ b
 below-or-level a b true y f g t = let h = f tt in omega arith

@@ -3,7 +3,7 @@ use mathlib.Core.Path.{_≡_, sym, subst}
 use native.Mathlib.Omega.{arith}
 use lib.Dec.{T}
 use lib.Ieee.{fits, ofBits}
-use Rattle.day_fraction.proofs.Product.{guessOf, sum-number, pattern-least, guess-small}
+use Rattle.day_fraction.proofs.Guessing.{guessOf, sum-number, pattern-least, guess-small}
 use Rattle.day_fraction.specs.Settling.{countOf}
 use Rattle.day_fraction.proofs.Counting.{total}
 use borrow.Author.Needs.{needs}
