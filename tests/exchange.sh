@@ -4,28 +4,13 @@
 # SEED=N repeats a run.
 set -euo pipefail
 cd "$(dirname "$0")/.."
-scratch=$(mktemp -d)
-trap 'rm -rf "$scratch"' EXIT
-
-# The cases of the independent program through the check, and what that tells.
-line=exchange
-checked() {
-    local what=$1 told
-    shift
-    told=$(build/independent "$@" 2> "$scratch/log" | build/exchange_check) || {
-        echo "exchange: failed with $*" >&2
-        cat "$scratch/log" >&2
-        exit 1
-    }
-    line+="; $what: ${told#*: }"
-}
+name=exchange
+. tests/checked.bash
 
 for system in 1 2; do
-    checked "exports of system $system" exports "$system"
-    checked "fractions of system $system" fractions "$system"
+    checked "exports of system $system" exchange_check exports "$system"
+    checked "fractions of system $system" exchange_check fractions "$system"
 done
-checked rows rows
-for seed in 1094 "${SEED:-$(date +%s)}"; do
-    checked "seed $seed" exchange-random "$seed" 1000000
-done
+checked rows exchange_check rows
+checked_random exchange_check exchange-random
 echo "${line/;/:}"
