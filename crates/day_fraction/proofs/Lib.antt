@@ -3,6 +3,8 @@
 pub mod Sizes
 -- What is no fraction of a day.
 pub mod NoFractions
+-- Floats below zero, by their bit patterns.
+pub mod BelowZero
 -- The count that a fraction is cut down to.
 pub mod Cuts
 -- Quotients rounded once.

@@ -48,15 +48,20 @@ fn count(in_day: u16, f: f64) -> u16
     (guess + at_guess + after_guess - 1) as u16
 }
 
-// The count that a fraction of the day settles to.
+// The bit pattern of negative zero. All above it are of floats below zero, or of none.
+const NEGATIVE_ZERO: u64 = 9_223_372_036_854_775_808;
+
+// The count that a fraction of the day settles to. Whether f is below zero is told by its pattern: a program may have
+// asked the processor to take the smallest floats for zero in comparisons.
 pub fn settle(in_day: u16, f: f64) -> Settled
     ensures { λ r. ⌜ r ≡ settledOf in_day f ⌝ }
 {
     if in_day == 0 {
         return Settled::None;
     }
-    if 0.0 <= f {
-        if f < 1.0 {
+    if f < 1.0 {
+        let pattern = f64::to_bits(f);
+        if pattern <= NEGATIVE_ZERO {
             return Settled::Count(count(in_day, f));
         }
         return Settled::None;
