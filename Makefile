@@ -19,8 +19,8 @@ programs = build/chiselbrow build/chiselbrow-renew build/almanac
 hosts = build/store build/rows
 # The toolchain's own C code, beside rt: what the programs call of the system.
 system := $(dir $(shell readlink -f "$$(command -v rt)"))../lib/libos_c.a
-test_tools = build/independent build/store_check build/convert_check build/exchange_check build/null_check build/builders \
-             build/incident build/feed build/faults.so
+test_tools = build/independent build/store_check build/convert_check build/exchange_check build/exchange_check_fast \
+             build/null_check build/builders build/incident build/feed build/faults.so
 bench_tools = build/bench build/bench_exchange build/bench_heads build/c_program build/c_renew build/c_compare build/c_pentads \
               build/c_submerged
 # The longest first, so that two at a time end together.
@@ -138,7 +138,11 @@ frame_checks = build/store_check build/convert_check build/exchange_check
 $(frame_checks) build/builders build/incident: build/%: tests/%.c include/chiselbrow.h $(library)
 	$(CC) $(CFLAGS) -Iinclude -o $@ $< $(library)
 
-$(frame_checks): tests/frames.h
+# For this host floats below the normal ones are zero.
+build/exchange_check_fast: tests/exchange_check.c include/chiselbrow.h $(library)
+	$(CC) $(CFLAGS) -ffast-math -Iinclude -o $@ $< $(library)
+
+$(frame_checks) build/exchange_check_fast: tests/frames.h
 
 build/feed: tests/feed.c | build
 	$(CC) $(CFLAGS) -o $@ $<
