@@ -11,6 +11,7 @@
  * arguments are wrong, the file cannot be read or the output not be written. */
 
 #include <chiselbrow.h>
+#include <errno.h>
 #include <inttypes.h>
 #include <stdio.h>
 #include <stdlib.h>
@@ -65,6 +66,13 @@ static int finish(int status)
     return 2;
 }
 
+/* Tells what went wrong with a file, and returns the exit status for that. */
+static int no_file(const char *file)
+{
+    fprintf(stderr, "rows: %s: %s\n", file, strerror(errno));
+    return 2;
+}
+
 int main(int argc, char **argv)
 {
     uint64_t system;
@@ -79,16 +87,11 @@ int main(int argc, char **argv)
     }
 
     FILE *file = fopen(argv[2], "rb");
-    if (file == NULL) {
-        perror(argv[2]);
-        return 2;
-    }
+    if (file == NULL)
+        return no_file(argv[2]);
     int all = print_rows(system, file);
-    if (ferror(file)) {
-        perror(argv[2]);
-        finish(2);
-        return 2;
-    }
+    if (ferror(file))
+        return finish(no_file(argv[2]));
     fclose(file);
     return finish(all ? 0 : 1);
 }

@@ -152,7 +152,8 @@
  *         day bears another
  *     8   the output is shorter than 10 bytes
  *
- * Refusal 9 is of requests that are not made from C, and 12 of rows; see ROWS.
+ * Refusal 9 is of requests that are not made from C, and 12 of rows. What 2, 3,
+ * 4 and 8 say of rows is told at chiselbrow_export and chiselbrow_import, below.
  * Later versions can have other numbers: take any but CHISELBROW_ACCEPTED as a
  * refusal.
  *
@@ -201,9 +202,11 @@
  *                     tag 2: in bytes 5 and 6 a count of whole parts of the
  *                     day, and then six zero bytes
  *
- * Which parts they are the row does not say. A day has 12030 of them by Guantian
- * and 7290 by Jiyuan, so that the system is told with the row. Jingchu has no
- * exchange. The same time by Guantian, with either tag:
+ * Whose parts they are the row does not say. A day has 12030 of them by Guantian
+ * and 7290 by Jiyuan, so that the caller names the system; Jingchu has no
+ * exchange. Counts are not converted: a row with tag 2 has to be imported by the
+ * system that it was written by, and by the other would tell another time, or be
+ * refused. The same time by Guantian, with either tag:
  *
  *     68 5C 20 00 01 00 00 00 00 00 00 E0 3F    day 2120808, half of it
  *     68 5C 20 00 02 7F 17 00 00 00 00 00 00    day 2120808, 6015 parts
@@ -213,6 +216,11 @@
  * rows with either tag, and settles a fraction to a count: to the largest whose
  * own fraction is not above it. So every fraction that was exported comes back
  * as the count that it was made from, and any other one is cut down.
+ *
+ * The days of rows are not judged; chiselbrow_cite_day and chiselbrow_store tell
+ * whether a system has a day. Nothing in a row tells where it begins: after a
+ * byte lost or too many most rows of a file are refused, and some can be read as
+ * others. So do not trust a file whose length is no multiple of 13.
  */
 
 #ifndef CHISELBROW_H
@@ -227,7 +235,8 @@
  * changed, a record that an earlier version stored can name another day or
  * none, and has to be stored anew, from the register day that was answered with
  * it. The third rises with what is told, as when a refusal gets a number of its
- * own, or a page of the almanac another line.
+ * own, or a page of the almanac another line, and with functions that are added:
+ * chiselbrow_export and chiselbrow_import are there from 2.0.4 on.
  *
  * Version 2.0 counts names from 1 and retires kind 2. A host that was built
  * with a header of 1.x cites by name in kind 2, which is refused now, and so
@@ -343,9 +352,8 @@ static inline unsigned chiselbrow_refusal(uint64_t answer)
 
 /* With CHISELBROW_REFUSED_LEAP, the number of the leap month that the cited
  * year has, 1 to 12, or 0 if it has none; with any other answer of
- * chiselbrow_store 0. So ask
- * chiselbrow_refusal first: 0 by itself does not say that a year has no leap
- * month. */
+ * chiselbrow_store 0. So ask chiselbrow_refusal first: 0 by itself does not say
+ * that a year has no leap month. */
 static inline unsigned chiselbrow_leap_month(uint64_t answer)
 {
     return (unsigned)(answer >> 40 & 0xFFu);
@@ -530,7 +538,8 @@ uint64_t chiselbrow_convert(const uint8_t *input, size_t input_len,
  * system               the system whose parts the time is in
  * day                  the register day; any is taken
  * parts, units         the time since midnight in parts of the day, and what is
- *                      left of a part in small units, of whatever size
+ *                      left of a part in small units, of whatever size: as
+ *                      `almanac year` tells them of a qi
  * output, output_len   where the row goes
  *
  * Exported: the first 13 output bytes become the row, with the fraction of the
@@ -548,13 +557,17 @@ uint64_t chiselbrow_convert(const uint8_t *input, size_t input_len,
  * The answer is 2^32 times the refusal number, plus 1 where small units were cut
  * off; chiselbrow_refusal and chiselbrow_units_cut take it apart.
  *
- * The numbers are wide, so that none is cut before it can be refused. Only the
- * bytes lent are written. A pointer whose length is 0 may be null.
+ * System, parts and units are wide, so that none is cut before it can be judged.
+ * The day has the 32 bits of a row: one that is negative or larger has been cut
+ * by C before the call. Only the bytes lent are written. A pointer whose length
+ * is 0 may be null.
  *
  * The call keeps no state, allocates nothing, makes no system call and ends
  * after a fixed handful of steps. It may be made from any number of threads
  * at once and from a signal handler. Floats have to be rounded to the nearest,
- * as they are unless a program asks for another way. */
+ * as they are unless a program asks for another way; that the smallest be taken
+ * for zero, as gcc -ffast-math asks, changes nothing. The floats' flag `inexact`
+ * may be raised. */
 uint64_t chiselbrow_export(uint64_t system, uint32_t day, uint64_t parts,
                            uint64_t units, uint8_t *output, size_t output_len);
 
@@ -603,7 +616,9 @@ static inline int chiselbrow_units_cut(uint64_t answer)
  * The call keeps no state, allocates nothing, makes no system call and ends
  * after a fixed handful of steps. It may be made from any number of threads
  * at once and from a signal handler. Floats have to be rounded to the nearest,
- * as they are unless a program asks for another way. */
+ * as they are unless a program asks for another way; that the smallest be taken
+ * for zero, as gcc -ffast-math asks, changes nothing. The floats' flag `inexact`
+ * may be raised. */
 uint64_t chiselbrow_import(uint64_t system, const uint8_t *row,
                            size_t row_len);
 

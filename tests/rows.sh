@@ -30,9 +30,9 @@ tells 1 1 $'2120808 6015 fraction\nrefused 3\n' <<< "$day $half $day"
 
 # Nothing is printed of what cannot be asked or read.
 run build/rows 1 "$scratch/none"
-told 'no file' 2 /dev/null "$scratch/none: No such file or directory"
+told 'no file' 2 /dev/null "rows: $scratch/none: No such file or directory"
 run build/rows 1 "$scratch"
-told 'a folder' 2 /dev/null "$scratch: Is a directory"
+told 'a folder' 2 /dev/null "rows: $scratch: Is a directory"
 for arguments in '' 1 "1 $scratch/list more" "x $scratch/list" "-1 $scratch/list" "1x $scratch/list"; do
     read -ra words <<< "$arguments"
     run build/rows "${words[@]}"
