@@ -1,5 +1,4 @@
-# Sourced by tests that send cases of the independent program through a check. The test sets `name` to its own, and
-# prints `line` at its end with the first ';' a ':'.
+# Sourced by tests that send cases of the independent program through a check. The test sets `name` to its own.
 scratch=$(mktemp -d)
 trap 'rm -rf "$scratch"' EXIT
 line=${name:?}
@@ -22,4 +21,9 @@ checked_random() {
     for seed in 1094 "${SEED:-$(date +%s)}"; do
         checked "seed $seed" "$check" "$cases" "$seed" 1000000
     done
+}
+
+# To be done at the end: one line for all that was checked.
+tell() {
+    echo "${line/;/:}"
 }

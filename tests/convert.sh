@@ -13,4 +13,4 @@ for system in 1 2 3; do
     checked "system $system" convert_check old-days "$system"
 done
 checked_random convert_check old-random
-echo "${line/;/:}"
+tell

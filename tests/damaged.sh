@@ -6,4 +6,4 @@ name=damaged
 . tests/checked.bash
 
 checked_random store_check random
-echo "${line/;/:}"
+tell

@@ -14,4 +14,4 @@ done
 checked rows exchange_check rows
 checked 'rows with small floats as zero' exchange_check_fast rows
 checked_random exchange_check exchange-random
-echo "${line/;/:}"
+tell

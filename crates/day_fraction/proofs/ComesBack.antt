@@ -2,17 +2,17 @@
 use Prim.Native.Nat.{ℕ, _+_, _*_, _^_, _≤_, _<_}
 use mathlib.Core.Path.{_≡_, sym, subst}
 use mathlib.Core.Bool.{not}
-use native.Mathlib.Nat.{zero-mul, mul-le-mul-right, lt-of-mul-lt-mul-right}
+use native.Mathlib.Nat.{mul-le-mul-right, lt-of-mul-lt-mul-right}
 use native.Mathlib.Omega.{arith}
 use lib.Dec.{T}
 use lib.IntN.{pos}
-use lib.Ieee.{Float, binary64, up, isNan, le, lt, fits, ofInt}
-use lib.Ieee.Fits.{and-i, div-fits}
+use lib.Ieee.{Float, binary64, up, isNan, le, fits, ofInt}
+use lib.Ieee.Fits.{div-fits}
 use lib.Ieee.Order.{round-mono}
 use lib.Ieee.Positive.{num, den, den-pos, through}
-use Rattle.day_fraction.specs.Fraction.{fractionOf, zeroFloat, oneFloat}
+use Rattle.day_fraction.specs.Fraction.{fractionOf}
 use Rattle.day_fraction.specs.Settling.{isFraction, notAbove, countOf}
-use Rattle.day_fraction.proofs.Sizes.{isSize, size-number, le→sizes, sizes→le, below-one}
+use Rattle.day_fraction.proofs.Sizes.{isSize, size-number, le→sizes, sizes→le, size-fraction}
 use Rattle.day_fraction.proofs.Rounding.{rounded, at-most}
 use Rattle.day_fraction.proofs.Exactness.{binary}
 use Rattle.day_fraction.proofs.Counts.{size, is-rounded, rises}
@@ -44,12 +44,8 @@ module _ (day : ℕ) (some : 0 < day) (few : day < 2 ^ 16) where
     fraction-float = div-fits binary64 (ofInt binary64 (pos parts)) (ofInt binary64 (pos day))
 
     pub fraction-of-day : T (isFraction (fractionOf day parts))
-    unfolding isFraction
     fraction-of-day =
-        subst (λ f. T (isFraction f)) (sym (is-rounded day some few parts (omega arith)))
-        (and-i (le zeroFloat x) (lt x oneFloat)
-        (sizes→le zeroFloat x tt x-size (omega (arith, zero-mul (den x))))
-        (below-one x x-size x-below))
+        subst (λ f. T (isFraction f)) (sym (is-rounded day some few parts (omega arith))) (size-fraction x x-size x-below)
 
     -- Its own is not above it, and that of any larger count is.
     pub comes-back : countOf day (fractionOf day parts) ≡ parts

@@ -3,16 +3,16 @@ use Prim.Native.Nat.{zero, suc, _+_, _*_, _<_}
 use mathlib.Core.Path.{refl, subst}
 use mathlib.Core.Logic.{inl, inr, ⊎-elim}
 use mathlib.Core.Bool.{true, false}
-use native.Mathlib.Nat.{zero-mul, mul-pos}
+use native.Mathlib.Nat.{zero-mul}
 use native.Mathlib.Omega.{arith}
 use native.Mathlib.Decide.{decLt}
 use lib.Dec.{T, lt→ltb, ltb→lt}
 use lib.Ieee.{Float, nan, inf, fin, up, down, le, lt}
-use lib.Ieee.Fits.{up-pos, down-pos, and-i}
+use lib.Ieee.Fits.{down-pos}
 use lib.Ieee.Positive.{num, den}
 use Rattle.day_fraction.specs.Fraction.{zeroFloat, oneFloat}
 use Rattle.day_fraction.specs.Settling.{isFraction, NoFraction}
-use Rattle.day_fraction.proofs.Sizes.{isSize, no-digits, le→sizes, sizes→le, fraction-size, below-one}
+use Rattle.day_fraction.proofs.Sizes.{isSize, no-digits, some-digits, le→sizes, sizes→le, fraction-size, size-fraction}
 
 no-nan : T (isFraction nan) → ⊥
 unfolding isFraction le
@@ -33,22 +33,14 @@ by-fraction nan is isnt = isnt (inl refl)
 by-fraction (inf true) is isnt = isnt (inr (inl tt))
 by-fraction (inf false) is isnt = isnt (inr (inr tt))
 by-fraction (fin true zero e) is isnt =
-    let f = fin true zero e in
-    is
-    (and-i (le zeroFloat f) (lt f oneFloat)
-    (sizes→le zeroFloat f tt tt (omega (arith, zero-mul (down e))))
-    (below-one f tt (omega (arith, zero-mul (up e), down-pos e))))
+    is (size-fraction (fin true zero e) tt (omega (arith, zero-mul (up e), down-pos e)))
 by-fraction (fin true (suc m) e) is isnt =
     isnt
-    (inr (inl (lt→ltb 0 (suc m * up e * 1 + 0 * 1 * down e) (omega (arith, mul-pos {m = suc m} {n = up e} (omega arith) (up-pos e))))))
+    (inr (inl (lt→ltb 0 (suc m * up e * 1 + 0 * 1 * down e) (omega (arith, some-digits m e)))))
 by-fraction (fin false m e) is isnt =
     let f = fin false m e in
     elim (decLt (m * up e) (down e)) [
-      | yes h ↦
-          is
-          (and-i (le zeroFloat f) (lt f oneFloat)
-          (sizes→le zeroFloat f tt tt (omega (arith, zero-mul (down e))))
-          (below-one f tt h))
+      | yes h ↦ is (size-fraction f tt h)
       | no h ↦ isnt (inr (inr (sizes→le oneFloat f tt tt (omega arith))))
     ]
 

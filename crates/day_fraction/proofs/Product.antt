@@ -6,14 +6,14 @@ use mathlib.Core.Bool.{true, false, true≢false}
 use native.Mathlib.Nat.{mul-pos, mul-le-mul-right, zero-mul, div-le-self}
 use native.Mathlib.Omega.{arith}
 use lib.Dec.{T}
-use lib.Pow.{pow-pos}
 use lib.Ieee.{Float, nan, inf, fin, binary64, up, down, round, mul}
-use lib.Ieee.Fits.{up-pos, down-pos}
-use lib.Ieee.Exact.{HasValue, round-exact}
+use lib.Ieee.Fits.{down-pos}
+use lib.Ieee.Exact.{HasValue}
 use lib.Ieee.Positive.{num, den, den-pos}
 use lib.Ieee.Scale.{round-same}
-use Rattle.day_fraction.proofs.Sizes.{isSize, no-digits}
+use Rattle.day_fraction.proofs.Sizes.{isSize, no-digits, some-digits}
 use Rattle.day_fraction.proofs.Cuts.{cutOf, cut-least, cut-most, cut-below}
+use Rattle.day_fraction.proofs.Exactness.{nothing}
 use Rattle.day_fraction.proofs.Rounding.{rounded, rounded-size, at-most, at-least, whole}
 
 -- A float that is zero, of either sign.
@@ -23,7 +23,7 @@ zero-size (inf s) b some v = absurd v
 zero-size (fin true zero e) b some v = (tt, zero-mul (up e))
 zero-size (fin false zero e) b some v = (tt, zero-mul (up e))
 zero-size (fin s (suc m) e) b some v =
-    absurd (omega (arith, v .1, zero-mul (down e), mul-pos (mul-pos {m = suc m} {n = up e} (omega arith) (up-pos e)) some))
+    absurd (omega (arith, v .1, zero-mul (down e), mul-pos (some-digits m e) some))
 
 -- A product between the count that f is cut down to and the next, both of which are floats.
 pub record Between (day : ℕ) (f p : Float) : Type 0 where
@@ -75,8 +75,7 @@ product day (fin true m e) (fin false n k) s below some few v =
     between-zero day (fin true m e) (round binary64 true a b) (no-digits m (up e) s)
     (zero-size (round binary64 true a b) b (mul-pos (down-pos e) (down-pos k))
     (subst (λ z. HasValue (round binary64 true z b) true 0 b) (sym gone)
-    (round-exact binary64 true 0 b 0 0 (mul-pos (down-pos e) (down-pos k)) (pow-pos 53) (pow-pos 2098)
-    (zero-mul (2 ^ 1074) ∙ sym (zero-mul b)))))
+    (nothing true b (mul-pos (down-pos e) (down-pos k)))))
   where
     a : ℕ
     a = m * up e * (n * up k)

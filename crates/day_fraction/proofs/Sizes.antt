@@ -5,6 +5,7 @@ use mathlib.Core.Bool.{Bool, true, false, not, _&&_, _||_}
 use native.Mathlib.Nat.{zero-mul, mul-pos}
 use native.Mathlib.Omega.{arith}
 use native.Mathlib.Decide.{decLt}
+use lib.IntN.{ℤ}
 use lib.Dec.{T, ltb, eqb, eqb→eq, ltb→lt, lt→ltb}
 use lib.Ieee.{Float, nan, inf, fin, up, down, isNan, le, lt}
 use lib.Ieee.Fits.{up-pos, down-pos, and-l, and-r, and-i, eq→eqb}
@@ -28,6 +29,10 @@ size-number (fin b m e) s = tt
 -- With no digits it is zero.
 pub no-digits : (m x : ℕ) → T (eqb m 0) → m * x ≡ 0
 no-digits m x t = ap (λ k. k * x) (eqb→eq m 0 t) ∙ zero-mul x
+
+-- With some it is not.
+pub some-digits : (m : ℕ) (e : ℤ) → 0 < suc m * up e
+some-digits m e = mul-pos {m = suc m} {n = up e} (omega arith) (up-pos e)
 
 none : (m x y : ℕ) → T (eqb m 0) → m * x * y ≡ 0
 none m x y t = ap (λ k. k * y) (no-digits m x t) ∙ zero-mul y
@@ -117,12 +122,19 @@ fraction-size (fin true (suc m) e) t =
     let b = suc m * up e * 1 in
     let level = and-l (eqb a b && eqb a 0) (lt (fin true (suc m) e) oneFloat) t in
     let same = eqb→eq a b (and-l (eqb a b) (eqb a 0) level) in
-    absurd (omega (arith, zero-mul (down e), mul-pos {m = suc m} {n = up e} (omega arith) (up-pos e)))
+    absurd (omega (arith, zero-mul (down e), some-digits m e))
 
--- And what is one of them and below one.
-pub below-one : (x : Float) → T (isSize x) → num x < den x → T (lt x oneFloat)
+-- And what is one of them and below one is a fraction of a day.
+pub not-below-zero : (x : Float) → T (isSize x) → T (le zeroFloat x)
+not-below-zero x s = sizes→le zeroFloat x tt s (omega (arith, zero-mul (den x)))
+
+below-one : (x : Float) → T (isSize x) → num x < den x → T (lt x oneFloat)
 unfolding lt
 below-one nan s h = absurd s
 below-one (inf b) s h = absurd s
 below-one (fin false m e) s h = lt→ltb (m * up e * 1) (1 * 1 * down e) (omega arith)
 below-one (fin true m e) s h = lt→ltb 0 (m * up e * 1 + 1 * 1 * down e) (omega (arith, down-pos e))
+
+pub size-fraction : (x : Float) → T (isSize x) → num x < den x → T (isFraction x)
+unfolding isFraction
+size-fraction x s h = and-i (le zeroFloat x) (lt x oneFloat) (not-below-zero x s) (below-one x s h)

@@ -38,15 +38,15 @@ pub time-split : (s : List ℕ) → patternField s ≡ partsField s + 65_536 * f
 time-split s = omega arith
 
 module _ (inDay : ℕ) (s : List ℕ) where
-  pub not-a-number : {bits : ℕ} → bits ≡ patternField s
-      → not (nanBits binary64 bits) ≡ false
+  pub not-a-number : {pattern : ℕ} → pattern ≡ patternField s
+      → not (nanBits binary64 pattern) ≡ false
       → Refused TIME ≡ fractionAnswer inDay s
-  not-a-number {bits} is h =
+  not-a-number {pattern} is h =
       ap (answerWith (dayField s) (Fraction nan)) (nan-settles inDay)
-      ∙ ap (λ f. answerOf inDay (dayField s) (Fraction f)) (sym (no-number bits h) ∙ ap (ofBits binary64) is)
+      ∙ ap (λ f. answerOf inDay (dayField s) (Fraction f)) (sym (no-number pattern h) ∙ ap (ofBits binary64) is)
 
-  pub read-fraction : {r bits : ℕ} {v : Imported} → r ≡ dayField s → bits ≡ patternField s
-      → v ≡ answerOf inDay r (Fraction (ofBits binary64 bits)) → v ≡ fractionAnswer inDay s
+  pub read-fraction : {r pattern : ℕ} {v : Imported} → r ≡ dayField s → pattern ≡ patternField s
+      → v ≡ answerOf inDay r (Fraction (ofBits binary64 pattern)) → v ≡ fractionAnswer inDay s
   read-fraction day pattern is = is ∙ ap₂ (λ r b. answerOf inDay r (Fraction (ofBits binary64 b))) day pattern
 
   pub read-parts : {r parts : ℕ} {v : Imported} → fillerField s ≡ 0 → r ≡ dayField s → parts ≡ partsField s

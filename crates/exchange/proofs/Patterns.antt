@@ -20,17 +20,17 @@ nan-is (inf b) e = absurd (true≢false (sym e))
 nan-is (fin b m x) e = absurd (true≢false (sym e))
 
 -- Without its sign, a pattern above that of infinity is not a number, and any other is one.
-module _ (bits : ℕ) where
-  pub no-number : not (nanBits binary64 bits) ≡ false → ofBits binary64 bits ≡ nan
-  no-number e = nan-is (ofBits binary64 bits) (sym (nanBits-is binary64 bits) ∙ not-false (nanBits binary64 bits) e)
+module _ (pattern : ℕ) where
+  pub no-number : not (nanBits binary64 pattern) ≡ false → ofBits binary64 pattern ≡ nan
+  no-number e = nan-is (ofBits binary64 pattern) (sym (nanBits-is binary64 pattern) ∙ not-false (nanBits binary64 pattern) e)
 
-  pub not-above-infinity : leb (bits % 9_223_372_036_854_775_808) 9_218_868_437_227_405_312 ≡ not (nanBits binary64 bits)
+  pub not-above-infinity : leb (pattern % 9_223_372_036_854_775_808) 9_218_868_437_227_405_312 ≡ not (nanBits binary64 pattern)
   not-above-infinity =
-      elim (decLt 9_218_868_437_227_405_312 (bits % 9_223_372_036_854_775_808)) [
-        | yes h ↦ lt-leb _ _ h ∙ sym (ap not (nanBits-above binary64 bits ∙ lt-ltb _ _ h))
+      elim (decLt 9_218_868_437_227_405_312 (pattern % 9_223_372_036_854_775_808)) [
+        | yes h ↦ lt-leb _ _ h ∙ sym (ap not (nanBits-above binary64 pattern ∙ lt-ltb _ _ h))
         | no h ↦
-            let l : bits % 9_223_372_036_854_775_808 ≤ 9_218_868_437_227_405_312 = omega arith in
-            le-leb _ _ l ∙ sym (ap not (nanBits-above binary64 bits ∙ le-ltb _ _ l))
+            let l : pattern % 9_223_372_036_854_775_808 ≤ 9_218_868_437_227_405_312 = omega arith in
+            le-leb _ _ l ∙ sym (ap not (nanBits-above binary64 pattern ∙ le-ltb _ _ l))
       ]
 
 pub pattern-fits : (f : Float) → fits binary64 f ≡ true → toBits binary64 f < 2 ^ 64

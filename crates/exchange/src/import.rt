@@ -49,10 +49,10 @@ const INFINITY: u64 = 9_218_868_437_227_405_312;
 
 const SIGN: u64 = 9_223_372_036_854_775_808;
 
-fn is_number(bits: u64) -> bool
-    ensures { λ r. ⌜ r ≡ not (nanBits binary64 bits) ⌝ }
+fn is_number(pattern: u64) -> bool
+    ensures { λ r. ⌜ r ≡ not (nanBits binary64 pattern) ⌝ }
 {
-    bits % SIGN <= INFINITY
+    pattern % SIGN <= INFINITY
 }
 
 // A row whose time is a fraction.
@@ -60,9 +60,13 @@ fn fraction_row(in_day: u16, row: &[u8]) -> Imported
     requires { ⌜ 13 ≤ length (now row) ⌝ }
     ensures { λ r. ⌜ r ≡ fractionAnswer in_day (now (row .entry)) ⌝ }
 {
-    let bits = row::time(row);
-    if is_number(bits) {
-        return answer(in_day, row::day(row), Time::Fraction(f64::from_bits(bits)));
+    let pattern = row::time(row);
+    if is_number(pattern) {
+        return answer(
+            in_day,
+            row::day(row),
+            Time::Fraction(f64::from_bits(pattern)),
+        );
     }
     Imported::Refused(TIME)
 }

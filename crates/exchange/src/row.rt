@@ -50,10 +50,10 @@ pub(crate) fn of_fraction(day: RegisterDay, fraction: f64) -> Row
     requires { ⌜ T (not (isNan fraction)) ⌝ }
     ensures { λ r. ⌜ r ≡ rowOf (day .0) fraction ⌝ }
 {
-    let bits = f64::to_bits(fraction);
+    let pattern = f64::to_bits(fraction);
     let d = bytes4(day.0);
-    let low = bytes4((bits % 4_294_967_296) as u32);
-    let high = bytes4((bits / 4_294_967_296) as u32);
+    let low = bytes4((pattern % 4_294_967_296) as u32);
+    let high = bytes4((pattern / 4_294_967_296) as u32);
     [
         d[0],
         d[1],

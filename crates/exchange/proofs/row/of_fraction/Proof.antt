@@ -4,8 +4,8 @@ use borrow.Author.Needs.{needs}
 use Rattle.exchange.proofs.row.of_fraction.Statement.{statement}
 use Rattle.exchange.proofs.row.of_fraction.Tie as tie
 
-float-to-bits-bits : tie.Need-float-to-bits-bits
-float-to-bits-bits c = search needs
+float-to-bits-pattern : tie.Need-float-to-bits-pattern
+float-to-bits-pattern c = search needs
 
 bytes4-requires : tie.Need-bytes4-requires
 bytes4-requires c κs = search needs
@@ -68,7 +68,7 @@ pub of-fraction-spec : {M : Type 1} → statement M
 of-fraction-spec =
     tie.close
     (tie.spec
-    float-to-bits-bits
+    float-to-bits-pattern
     bytes4-requires
     cast-bytes4
     bytes4-requires-2
