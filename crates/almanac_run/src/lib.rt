@@ -1,6 +1,8 @@
 // The run of the program almanac: `almanac year SYSTEM YEAR [LAST]`, `almanac pentads SYSTEM YEAR [LAST]`,
 // `almanac pentad SYSTEM DAY [LAST]`, `almanac submerged SYSTEM YEAR [LAST]`, `almanac extinguished SYSTEM YEAR [LAST]`,
 // `almanac compare FIRST SECOND YEAR [LAST]` and `almanac sun winter|summer FIRST [LAST]`.
+#![tactic(auto)]
+
 ghost use Rattle.std.specs.Prelude.{◌≡◌};
 ghost use Rattle.process.specs.Exit.{misused, AnsweredOrFailed, Ended};
 

@@ -11,7 +11,7 @@ use solar_inequality::data::Season;
 
 // What is printed by one system: the page of a year, that of a year's pentads, the line of the pentad in force on a
 // register day, or the page of a year's submerged or extinguished days.
-#[derive(Drop)]
+#[derive(Clone, Copy)]
 pub(crate) enum Page {
     Year,
     Pentads,
@@ -22,7 +22,7 @@ pub(crate) enum Page {
 
 // What is printed of each number: a page by a system, two systems compared, or the line of the sun's excess or shortfall
 // so many days after a solstice.
-#[derive(Drop)]
+#[derive(Clone, Copy)]
 pub(crate) enum Request {
     BySystem(Page, u32),
     Compare(u32, u32),
@@ -30,7 +30,7 @@ pub(crate) enum Request {
 }
 
 // Pages put into a buffer: how many, the number after them, and where the last one ends.
-#[derive(Drop)]
+#[derive(Clone, Copy)]
 struct Filled {
     pages: u64,
     next: u32,

@@ -2,7 +2,7 @@
 ghost use Rattle.arguments.specs.Options.{Reads};
 
 // What a lone argument asks for.
-#[derive(Drop)]
+#[derive(Clone, Copy)]
 pub enum Wish {
     Help,
     Version,

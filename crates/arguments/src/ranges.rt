@@ -9,7 +9,7 @@ use crate::number::Argument;
 const LONGEST: u64 = 1000000000000000000;
 
 // The first, as a number is told, and how many there are; or no range.
-#[derive(Drop)]
+#[derive(Clone, Copy)]
 pub enum Range {
     From(u32, u64),
     Other,

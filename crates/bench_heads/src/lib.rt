@@ -1,4 +1,6 @@
 // A year's head for the benchmark, which calls it from C: from the printed page, and reckoned.
+#![tactic(auto)]
+
 ghost use Rattle.std.specs.Prelude.{◌≡◌};
 ghost use Rattle.bench_heads.specs.Heads.{printed, reckoned};
 

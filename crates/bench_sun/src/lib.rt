@@ -1,4 +1,6 @@
 // The sun's excess and shortfall for the benchmark, which calls it from C.
+#![tactic(auto)]
+
 ghost use Rattle.std.specs.Prelude.{◌≡◌};
 ghost use Rattle.bench_sun.specs.Amounts.{season_of, amount_for};
 

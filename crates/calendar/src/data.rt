@@ -1,17 +1,17 @@
 // A register day: the Julian Day Number of a civil day counted from midnight. The customer's own term.
-#[derive(Drop)]
+#[derive(Clone, Copy)]
 pub struct RegisterDay(pub u32);
 
 // A sixty-day name, from 1 (jiazi) to 60 (guihai).
-#[derive(Drop)]
+#[derive(Clone, Copy)]
 pub struct DayName(pub u8);
 
 // The place of a day in its year, from 1.
-#[derive(Drop)]
+#[derive(Clone, Copy)]
 pub struct Ordinal(pub u16);
 
 // All that differs between systems. Paper 01, "Constants", in the order of its rows, and paper 02, Q-4 and Q-6.
-#[derive(Drop)]
+#[derive(Clone, Copy)]
 pub struct Constants {
     // Parts in a day, D: of those in which the year is counted, and of those in which the month is. No rule compares
     // the two.

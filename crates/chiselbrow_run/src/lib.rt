@@ -1,5 +1,7 @@
 // The run of the program chiselbrow. What it answers is in `lines`, and what it does between two calls of the system in
 // `turn`; here bytes are moved between that and the system.
+#![tactic(auto)]
+
 ghost use Rattle.std.specs.Prelude.{◌≡◌, ◌<◌, ◌≤◌, true, false, length, take, if◌then◌else◌, nat_eq};
 ghost use Rattle.process.specs.Exit.{answered, failed, AnsweredOrFailed, Ended};
 ghost use Rattle.chiselbrow_run.specs.Buffers.{Buffers};
@@ -13,7 +15,7 @@ mod turn;
 
 // How a step ended: whether a call of the system failed, and if not, whether the run goes on, how many bytes are left
 // and how many were answered.
-#[derive(Drop)]
+#[derive(Clone, Copy)]
 struct Step {
     failed: bool,
     more: bool,

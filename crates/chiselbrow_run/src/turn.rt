@@ -8,7 +8,7 @@ use framing::{goes_on, keep};
 use lines::buffer::{ending, put_lines};
 
 // How many bytes were answered and how many are left, how many were written, and whether the run goes on.
-#[derive(Drop)]
+#[derive(Clone, Copy)]
 pub(crate) struct Turn {
     pub read: usize,
     pub left: usize,

@@ -12,7 +12,7 @@ use reckoning::refusal_numbers::{DAY, KIND, LENGTH, RETIRED, SHORT};
 
 // `refusal` is 0 when the citation is accepted; refused, day and record are zeros. Refused LEAP, `told` is the number of
 // the year's leap month, 0 if it has none; otherwise it is 0.
-#[derive(Drop)]
+#[derive(Clone, Copy)]
 pub struct Judgement {
     pub refusal: u8,
     pub day: RegisterDay,

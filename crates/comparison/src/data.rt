@@ -2,7 +2,7 @@
 
 // How two systems differ at a place of a year: the head of the second less the head of the first, in days, or which of
 // the two lacks a month there.
-#[derive(Drop)]
+#[derive(Clone, Copy)]
 pub enum Difference {
     Days(i64),
     FirstLacks,
@@ -10,7 +10,7 @@ pub enum Difference {
 }
 
 // A place of the year, from 1, and how the two differ there.
-#[derive(Drop)]
+#[derive(Clone, Copy)]
 pub struct Listed {
     pub place: u8,
     pub difference: Difference,
@@ -18,7 +18,7 @@ pub struct Listed {
 
 // The places where two systems differ in a year, in order: `count` of them, then zeros. Refused, it carries the refusal
 // number and lists none.
-#[derive(Drop)]
+#[derive(Clone, Copy)]
 pub struct Comparison {
     pub refusal: u8,
     pub count: u8,

@@ -1,4 +1,6 @@
 // Where two systems differ in a year, month by month.
+#![tactic(auto)]
+
 ghost use Rattle.std.specs.Prelude.{◌≡◌};
 ghost use Rattle.comparison.specs.Comparisons.{comparison_of};
 ghost use Rattle.comparison.specs.WhereSystemsDiffer.{EachSays};

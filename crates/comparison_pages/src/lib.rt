@@ -1,4 +1,6 @@
 // The page of a comparison for people: what is compared, and each place where the two systems differ.
+#![tactic(auto)]
+
 ghost use Rattle.text.specs.Put.{Put};
 ghost use Rattle.comparison_pages.specs.ComparisonPage.{comparison_page};
 

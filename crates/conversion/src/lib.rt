@@ -1,4 +1,6 @@
 // The conversion of records of the retired kind 2, which cited a day by its name counted from 0, into kind 5.
+#![tactic(auto)]
+
 ghost use Rattle.std.specs.Prelude.{◌≡◌, false, eqb, length};
 ghost use Rattle.reckoning.specs.RefusalNumbers.{KIND};
 ghost use Rattle.conversion.specs.Conversion.{conversion_refusal, converted, conversion_answer};

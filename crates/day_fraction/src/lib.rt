@@ -1,4 +1,6 @@
 // A time of day as a fraction of the day: from a count of parts, and back to one.
+#![tactic(auto)]
+
 ghost use Rattle.std.specs.Prelude.{◌≡◌, ◌<◌, T};
 ghost use Rattle.std.specs.Float.{binary64};
 ghost use Rattle.std.specs.Float.Ieee.{div, le};
@@ -6,7 +8,7 @@ ghost use Rattle.day_fraction.specs.Fraction.{fraction_of};
 ghost use Rattle.day_fraction.specs.Settling.{is_fraction, count_of, settled_of, bit};
 
 // The count of parts that a time settles to; none where it is no time of the day.
-#[derive(Drop)]
+#[derive(Clone, Copy)]
 pub enum Settled {
     None,
     Count(u16),

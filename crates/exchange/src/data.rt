@@ -2,7 +2,7 @@
 use calendar::data::RegisterDay;
 
 // A time of day until it is settled: a fraction of the day, or a count of parts.
-#[derive(Drop)]
+#[derive(Clone, Copy)]
 pub enum Time {
     Fraction(f64),
     Parts(u16),
@@ -10,7 +10,7 @@ pub enum Time {
 
 // A row that is refused has the number of its refusal, and neither day nor time. Another has its day, its time as it
 // came, and the count of parts that the time settles to.
-#[derive(Drop)]
+#[derive(Clone, Copy)]
 pub enum Imported {
     Refused(u8),
     Row(RegisterDay, Time, u16),

@@ -1,4 +1,6 @@
 // Records one after another in a buffer: where a whole one stands, and what is left after them.
+#![tactic(auto)]
+
 ghost use Rattle.std.specs.Prelude.{◌≡◌, not, ◌||◌, ◌+◌, ◌<◌, length, drop};
 ghost use Rattle.citation.specs.Record.{length_field};
 ghost use Rattle.framing.specs.Framing.{misframed, next_of};

@@ -8,7 +8,7 @@ use framing::next;
 use reckoning::refusal_numbers::SHORT;
 
 // How far a buffer was read, and how much was written.
-#[derive(Drop)]
+#[derive(Clone, Copy)]
 pub struct Progress {
     pub read: usize,
     pub written: usize,

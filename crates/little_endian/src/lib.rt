@@ -1,4 +1,6 @@
 // Numbers as bytes, the lowest byte first.
+#![tactic(auto)]
+
 ghost use Rattle.std.specs.Prelude.{◌≡◌, ◌<◌, ◌^◌};
 ghost use Rattle.little_endian.specs.Number.{le16, le32, le64, bytes4};
 

@@ -3,6 +3,8 @@
 //
 // Each is put into an output at a place, or the line of its refusal; where too few bytes are left there, the output and
 // the place stay as they are.
+#![tactic(auto)]
+
 ghost use Rattle.text.specs.Put.{Put};
 ghost use Rattle.pages.specs.Page.{page_of};
 ghost use Rattle.pages.specs.PentadPages.{pentads_page, pentad_line};

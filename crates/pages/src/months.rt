@@ -8,7 +8,7 @@ use crate::names::name;
 use reckoning::data::{NONE_HELD, Year};
 
 // What is told of a month.
-#[derive(Drop)]
+#[derive(Clone, Copy)]
 pub(crate) struct ToldMonth {
     pub place: u32,
     pub number: u8,

@@ -7,7 +7,7 @@ use crate::names::name;
 use reckoning::data::Moment;
 
 // The equal steps that a year can be divided into.
-#[derive(Drop)]
+#[derive(Clone, Copy)]
 pub(crate) enum Steps {
     Qi,
     Pentads,

@@ -1,4 +1,6 @@
 // The heads of Guantian years 960 to 1279, printed: paper 02, Q-5.
+#![tactic(auto)]
+
 ghost use Rattle.std.specs.Prelude.{◌≡◌, ◌+◌, ◌<◌};
 ghost use Rattle.calendar.specs.Systems.{guantian, years_elapsed};
 ghost use Rattle.printed_heads.specs.PrintedHeads.{first_year, on_page, IsHead, Says, printed_head};
@@ -16,7 +18,7 @@ const FIRST: u32 = 960;
 const LAST: u32 = 1279;
 
 // What the page says of a year.
-#[derive(Drop)]
+#[derive(Clone, Copy)]
 pub enum Printed {
     Head(RegisterDay),
     Unprinted,

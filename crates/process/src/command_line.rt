@@ -6,7 +6,7 @@ use arguments::options;
 use arguments::options::Wish;
 
 // The program is to run, or it was asked for something else and ends with this status.
-#[derive(Drop)]
+#[derive(Clone, Copy)]
 pub enum Asked {
     Run,
     Done(u32),

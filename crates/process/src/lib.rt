@@ -1,4 +1,6 @@
 // What a program has of the system: its command line, standard input and output, and the status that it exits with.
+#![tactic(auto)]
+
 pub mod command_line;
 pub mod exit;
 pub mod streams;

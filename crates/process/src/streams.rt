@@ -5,7 +5,7 @@ ghost use Rattle.std.specs.Prelude.{◌≡◌, true, ◌≤◌, length};
 use libc::{STDIN_FILENO, STDOUT_FILENO};
 
 // What a read gave: so many bytes, none at the end of the input; or it failed, and errno tells why.
-#[derive(Drop)]
+#[derive(Clone, Copy)]
 pub struct Got {
     pub failed: bool,
     pub count: usize,

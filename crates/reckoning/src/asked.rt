@@ -10,7 +10,7 @@ use calendar::data::Constants;
 use calendar::systems::{guantian, jingchu, jiyuan};
 
 // Its refusal number, the system's constants and the years elapsed.
-#[derive(Drop)]
+#[derive(Clone, Copy)]
 pub(crate) struct Asked {
     pub refusal: u8,
     pub c: Constants,

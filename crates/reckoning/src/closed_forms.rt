@@ -12,7 +12,7 @@ use crate::data::NONE_HELD;
 use calendar::data::{Constants, RegisterDay};
 
 // A step counted on from the epoch, and what the division that finds it leaves over.
-#[derive(Drop)]
+#[derive(Clone, Copy)]
 pub(crate) struct LastStep {
     pub step: u64,
     pub left: u64,

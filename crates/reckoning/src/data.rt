@@ -3,7 +3,7 @@ use calendar::data::RegisterDay;
 
 // The moment of a qi or of a pentad: its day, and the parts and units left over of it. Units are a qi's small units,
 // and of a pentad those in which its fraction is told.
-#[derive(Drop)]
+#[derive(Clone, Copy)]
 pub struct Moment {
     pub refusal: u8,
     pub day: RegisterDay,
@@ -12,7 +12,7 @@ pub struct Moment {
 }
 
 // The pentad in force at the end of a day, by number, and its year, counted from solstice to solstice.
-#[derive(Drop)]
+#[derive(Clone, Copy)]
 pub struct PentadInForce {
     pub refusal: u8,
     pub year: u32,
@@ -26,7 +26,7 @@ pub const NONE_HELD: u8 = 255;
 // after them; beside each month's head its number and leap mark, the remainder of its new moon in lunar parts, and the
 // index, 0 to 11, of the middle qi that it holds, or NONE_HELD. Unused places are 0, in `held` NONE_HELD, and so is what
 // stands beside the next year's head.
-#[derive(Drop)]
+#[derive(Clone, Copy)]
 pub struct Year {
     pub refusal: u8,
     pub count: u8,
@@ -38,7 +38,7 @@ pub struct Year {
 }
 
 // The names of a year's days, in order; 255 past its end.
-#[derive(Drop)]
+#[derive(Clone, Copy)]
 pub struct Sheet {
     pub refusal: u8,
     pub names: [u8; 384],
@@ -46,7 +46,7 @@ pub struct Sheet {
 
 // A month: its first day and how many days it has. Refused LEAP, and only then, `told` tells the number of the
 // year's leap month, 0 if the year has none; otherwise it is 0.
-#[derive(Drop)]
+#[derive(Clone, Copy)]
 pub struct Month {
     pub refusal: u8,
     pub head: RegisterDay,
@@ -55,14 +55,14 @@ pub struct Month {
 }
 
 // The head of a year.
-#[derive(Drop)]
+#[derive(Clone, Copy)]
 pub struct YearHead {
     pub refusal: u8,
     pub day: RegisterDay,
 }
 
 // The days of a year: the first, and how many.
-#[derive(Drop)]
+#[derive(Clone, Copy)]
 pub struct Days {
     pub refusal: u8,
     pub head: RegisterDay,
@@ -70,7 +70,7 @@ pub struct Days {
 }
 
 // A day of a year by its ordinal: the day, its month's number and leap mark, and its place in the month.
-#[derive(Drop)]
+#[derive(Clone, Copy)]
 pub struct OrdinalDay {
     pub refusal: u8,
     pub day: RegisterDay,
@@ -81,7 +81,7 @@ pub struct OrdinalDay {
 
 // A day by year, month number, leap mark and day of the month. The year has 32 bits, since a struct of eight bytes is
 // packed into one word and taken apart again.
-#[derive(Drop)]
+#[derive(Clone, Copy)]
 pub struct Date {
     pub refusal: u8,
     pub year: u32,

@@ -10,7 +10,7 @@ use calendar::data::Constants;
 
 // Two middle qi, counted from a year's first: none of the months up to that of `low` is leap, and one up to that of
 // `high` is, unless `high` is 16.
-#[derive(Drop)]
+#[derive(Clone, Copy)]
 struct Bounds {
     low: u64,
     high: u64,

@@ -3,6 +3,8 @@
 //
 // System, year, qi and pentad number come as 32 bits, so that no number is cut before it can be refused. A refused
 // request gives a blank answer that carries the refusal number, and with LEAP the number of the year's leap month.
+#![tactic(auto)]
+
 ghost use Rattle.std.specs.Prelude.{◌≡◌, ◌<◌};
 ghost use Rattle.calendar.specs.Systems.{constants_of, years_elapsed};
 ghost use Rattle.calendar.specs.SixtyDayName.{name_of};

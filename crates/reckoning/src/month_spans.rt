@@ -10,7 +10,7 @@ use crate::closed_forms::{day_of_qi, last_step, month_head};
 use calendar::data::Constants;
 
 // A month, its head and the next month's, as count days.
-#[derive(Drop)]
+#[derive(Clone, Copy)]
 pub(crate) struct MonthSpan {
     pub month: u64,
     pub head: u64,
@@ -18,7 +18,7 @@ pub(crate) struct MonthSpan {
 }
 
 // The last middle qi on a day of a month or earlier, and the month's leap mark.
-#[derive(Drop)]
+#[derive(Clone, Copy)]
 pub(crate) struct LastQi {
     pub qi: u64,
     pub leap: u8,

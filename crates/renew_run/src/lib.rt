@@ -1,5 +1,7 @@
 // The run of the program chiselbrow-renew. What it does between two calls of the system is in `turn`; here bytes are
 // moved between that and the system.
+#![tactic(auto)]
+
 ghost use Rattle.std.specs.Prelude.{◌≡◌, ◌<◌, ◌≤◌, true, false, length, take, if◌then◌else◌, nat_eq};
 ghost use Rattle.process.specs.Exit.{failed, AnsweredOrFailed, Ended};
 ghost use Rattle.renew_run.specs.Stepped.{Stepped, ReadAndRenewed};
@@ -15,7 +17,7 @@ mod turn;
 
 // How a step ended: whether a call of the system failed, and if not, whether the run goes on, whether the input has
 // ended, how many bytes are left and how many the records had, and whether one of them was refused.
-#[derive(Drop)]
+#[derive(Clone, Copy)]
 struct Step {
     failed: bool,
     more: bool,

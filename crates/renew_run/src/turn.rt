@@ -6,7 +6,7 @@ use framing::goes_on;
 
 // How many bytes the records have and how many are to be written, whether the run goes on, and whether a record was
 // refused.
-#[derive(Drop)]
+#[derive(Clone, Copy)]
 pub(crate) struct Turn {
     pub read: usize,
     pub written: usize,

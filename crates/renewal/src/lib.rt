@@ -1,11 +1,13 @@
 // Records of the retired kind 2 renewed where they stand in a buffer; all other bytes stay.
+#![tactic(auto)]
+
 ghost use Rattle.std.specs.Prelude.{◌≡◌, not, ◌||◌, eqb};
 ghost use Rattle.renewal.specs.Renewal.{renewed_of, renewal_of};
 
 use framing::next;
 
 // How many bytes the records have, and whether one of kind 2 was refused, and left as it was.
-#[derive(Drop)]
+#[derive(Clone, Copy)]
 pub struct Renewal {
     pub read: usize,
     pub refused: bool,

@@ -2,7 +2,7 @@
 
 // The solstice that days are counted from. After the winter solstice the sun has an excess (盈), after the summer
 // solstice a shortfall (缩).
-#[derive(Drop)]
+#[derive(Clone, Copy)]
 pub enum Season {
     Winter,
     Summer,
@@ -10,7 +10,7 @@ pub enum Season {
 
 // The excess or the shortfall, in ten-thousandths of a degree, cut down. `refusal` is 0 when the request was answered;
 // refused, the amount is 0.
-#[derive(Drop)]
+#[derive(Clone, Copy)]
 pub struct Answer {
     pub refusal: u8,
     pub amount: u16,

@@ -1,5 +1,7 @@
 // The sun's excess and shortfall (盈缩) by Guantian: by how many degrees it is ahead of even motion on a day after the
 // winter solstice, or behind it after the summer solstice.
+#![tactic(auto)]
+
 ghost use Rattle.std.specs.Prelude.{◌≡◌};
 ghost use Rattle.solar_inequality.specs.Answers.{answer_of};
 

@@ -7,7 +7,7 @@ use calendar::systems::GUANTIAN_DAY;
 
 // All that differs between the seasons: for how long the excess or the shortfall grows (限), L in paper 02, and the
 // divisor that goes with it.
-#[derive(Drop)]
+#[derive(Clone, Copy)]
 pub(crate) struct Limit {
     pub parts: u64,
     pub divisor: u64,

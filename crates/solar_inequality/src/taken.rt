@@ -10,7 +10,7 @@ use crate::limits::Limit;
 use calendar::systems::GUANTIAN_DAY;
 
 // So many parts, x in paper 02, and the season whose limit is used.
-#[derive(Drop)]
+#[derive(Clone, Copy)]
 pub(crate) struct Taken {
     pub parts: u64,
     pub season: Season,

@@ -1,4 +1,6 @@
 // The line for people of the sun's excess or shortfall on a day.
+#![tactic(auto)]
+
 ghost use Rattle.std.specs.Prelude.{◌+◌, ◌≤◌, length};
 ghost use Rattle.text.specs.Put.{Put};
 ghost use Rattle.text.specs.Wrote.{Wrote};

@@ -1,5 +1,7 @@
 // Submerged days (没日), each of a qi, and extinguished days (灭日), each of a new moon, by the systems that have them:
 // Guantian and Jiyuan. Each is answered as its distance from the day of its qi or new moon.
+#![tactic(auto)]
+
 ghost use Rattle.std.specs.Prelude.{◌≡◌};
 ghost use Rattle.submerged_extinguished.specs.Answers.{submerged_of, extinguished_days_of, extinguished_of};
 ghost use Rattle.submerged_extinguished.specs.Outcomes.{SubmergedOutcome, ExtinguishedOutcome};

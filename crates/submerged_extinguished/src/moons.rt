@@ -17,7 +17,7 @@ use calendar::data::{Constants, RegisterDay};
 use calendar::systems;
 
 // A new moon: its register day and its remainder.
-#[derive(Drop)]
+#[derive(Clone, Copy)]
 pub(crate) struct Moon {
     pub day: u32,
     pub remainder: u64,

@@ -5,7 +5,7 @@ ghost use Rattle.submerged_extinguished.specs.Rules.{guantian_rule, jiyuan_rule}
 pub(crate) const LAST: u32 = 2;
 
 // All that differs between the systems.
-#[derive(Drop)]
+#[derive(Clone, Copy)]
 pub(crate) struct Rule {
     // The least remainder of a qi that has a submerged day (没限), in small units.
     pub limit: u64,

@@ -2,6 +2,8 @@
 //
 // Each page, or the line of its refusal, is put into an output where 1024 bytes follow; where fewer do, the output and
 // the position stay as they are.
+#![tactic(auto)]
+
 ghost use Rattle.text.specs.Put.{Put};
 ghost use Rattle.submerged_extinguished_pages.specs.DistancePages.{submerged_page, extinguished_page};
 

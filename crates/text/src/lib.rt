@@ -1,6 +1,8 @@
 // Text for any program: words, decimal numbers, a system's letter and a leap month's star, put into an output at a place.
 // Each function that puts text gives the place after it; where too few bytes are left at the place, the output and the
 // place stay as they are.
+#![tactic(auto)]
+
 ghost use Rattle.std.specs.Prelude.{◌≡◌, ◌+◌, ◌*◌, ◌^◌, ◌<◌, ltb, length};
 ghost use Rattle.text.specs.Decimal.{decimal};
 ghost use Rattle.text.specs.Piece.{word, field, letter_of, year, title, month, numbered, line, last_field, refused_with, refused_line, refused_telling_line};
