@@ -23,6 +23,17 @@ BOUND = [
 ]
 # Where two names fall together and neither is a lemma of the other's name.
 BY_HAND = {
+    # fields beside a definition of the same words
+    "as-it-is": "stays_as_it_is",
+    "is-head": "begins_month",
+    "is-kind": "of_kind",
+    "leap-number": "leap_repeats",
+    "moon-after": "next_moon",
+    "not-above": "lies_not_above",
+    "qi-before": "before_next_qi",
+    "register-day": "is_register_day",
+    "solstice-day": "solstice_in_register",
+    # names of tests' records, and of what a proof assumes
     "byDate": "cited_by_date",
     "byDay": "cited_by_day",
     "byName": "cited_by_name",
@@ -98,20 +109,20 @@ def mapping(root):
         if len(olds) > 1 or new in spelled:
             together[new] = olds
             for old in olds:
-                if "-" in old:
+                if "-" in old and old not in BY_HAND:
                     to[old] = new + "_lem"
     return to, together, top, local
 
 
 def turned(text, to):
-    """What follows `tie.` is Rattle's. After another dot a name with `_lem` may be a step of the code, and keeps out of it."""
+    """What follows `tie.` is Rattle's. After another dot a name that falls together may be a step of the code."""
 
     def one(m):
         start, name = m.start(), m.group(0)
         if text[max(0, start - 4) : start] == "tie.":
             return name
         new = to.get(name, name)
-        if new.endswith("_lem") and text[max(0, start - 1) : start] == "." and to.get("in a proof of code"):
+        if (new.endswith("_lem") or name in BY_HAND) and text[max(0, start - 1) : start] == "." and to.get("in a proof of code"):
             return snake(name)
         return new
 

@@ -59,7 +59,7 @@ module _ (K : Calendar) where
 
   -- Middle qi and months.
   pub qi_unique : (g k : ℕ) → K.month_of_qi g ≤ k → k < K.month_of_qi (g + 1) → g ≡ K.qi_of_month k
-  qi_unique g k a b = place_unique K.month_of_qi K.qi_rises g (K.qi_of_month k) k a b (K.qi_from k) (K.qi_before_lem k)
+  qi_unique g k a b = place_unique K.month_of_qi K.qi_rises g (K.qi_of_month k) k a b (K.qi_from k) (K.before_next_qi k)
 
   pub qi_of_held : (g k : ℕ) → K.month_of_qi g ≡ k → g ≡ K.qi_of_month k
   qi_of_held g k e = qi_unique g k (omega arith) (omega (arith, K.qi_rises g))
@@ -77,7 +77,7 @@ module _ (K : Calendar) where
       omega (arith, K.year_most g)
 
   pub behind_most : (k : ℕ) → behind K k ≤ 1
-  behind_most k = omega (arith, K.qi_before_lem k, qi_step_most (K.qi_of_month k))
+  behind_most k = omega (arith, K.before_next_qi k, qi_step_most (K.qi_of_month k))
 
   -- a month that holds none has the last middle qi of the month before
   pub qi_of_lacking : (k : ℕ) → (Held K (k + 1) → ⊥) → K.qi_of_month (k + 1) ≡ K.qi_of_month k
@@ -86,7 +86,7 @@ module _ (K : Calendar) where
       (by_order (K.month_of_qi (K.qi_of_month (k + 1))) (k + 1)
       (λ l. omega arith)
       (λ l. absurd (lacks (omega (arith, K.qi_from (k + 1))))))
-      (omega (arith, K.qi_before_lem (k + 1)))
+      (omega (arith, K.before_next_qi (k + 1)))
 
   -- Years and months.
   next_first : (n : ℕ) → first K (n + 1) ≡ K.month_of_qi (12 * n + 12)
@@ -113,7 +113,7 @@ module _ (K : Calendar) where
       let g = K.qi_of_month k in
       let a : K.month_of_qi (12 * (g / 12)) ≤ K.month_of_qi g = monotone K.month_of_qi K.qi_rises (omega arith) in
       let b : K.month_of_qi (g + 1) ≤ K.month_of_qi (12 * (g / 12 + 1)) = monotone K.month_of_qi K.qi_rises (omega arith) in
-      (omega (arith, K.qi_from k), omega (arith, K.qi_before_lem k))
+      (omega (arith, K.qi_from k), omega (arith, K.before_next_qi k))
 
   pub year_unique : (n k : ℕ) → Within K n k → n ≡ K.qi_of_month k / 12
   year_unique n k w =

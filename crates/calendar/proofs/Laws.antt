@@ -201,7 +201,7 @@ module _ (c : Constants) (ok : Consistent c) where
       let e : qi_of_month c k ≡ qi_of_number n number = omega (arith, number_unique c ok p.bears, year_unique K n k w) in
       let f = ap (λ g. month_of_qi c (g + 1)) e in
       lt-ltb (month_of_qi c (qi_of_number n number) + 1) (month_of_qi c (qi_of_number n number + 1))
-      (omega (arith, cited_unique n number 1 k b p, K.qi_before_lem k))
+      (omega (arith, cited_unique n number 1 k b p, K.before_next_qi k))
 
   -- The month that the closed form names has the number and the mark.
   cited_here : (n number mark : ℕ) → Inside 1 12 number

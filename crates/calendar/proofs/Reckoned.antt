@@ -84,8 +84,8 @@ module _ (c : Constants) (ok : Consistent c) where
       in
       omega (arith, month_before (k + 1) (day_of_qi c g) inside)
 
-  pub qi_before_lem : (k : ℕ) → k < month_of_qi c (qi_of_month c k + 1)
-  qi_before_lem k =
+  pub before_next_qi : (k : ℕ) → k < month_of_qi c (qi_of_month c k + 1)
+  before_next_qi k =
       let g = qi_of_month c k + 1 in
       let past : month_head c (k + 1) ≤ day_of_qi c g =
       step_after_it c 12 (omega arith) ok.solar_some year_some (month_head c (k + 1))
@@ -110,5 +110,5 @@ module _ (c : Constants) (ok : Consistent c) where
         day_from = day_from;
         day_before = day_before;
         qi_from = qi_from;
-        qi_before_lem = qi_before_lem;
+        before_next_qi = before_next_qi;
       }

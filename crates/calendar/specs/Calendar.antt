@@ -24,4 +24,4 @@ pub record Calendar : Type 0 where
   pub day_from : (d : ℕ) → head (month_of_day d) ≤ d
   pub day_before : (d : ℕ) → d < head (month_of_day d + 1)
   pub qi_from : (k : ℕ) → month_of_qi (qi_of_month k) ≤ k
-  pub qi_before_lem : (k : ℕ) → k < month_of_qi (qi_of_month k + 1)
+  pub before_next_qi : (k : ℕ) → k < month_of_qi (qi_of_month k + 1)

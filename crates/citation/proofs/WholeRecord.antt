@@ -134,14 +134,14 @@ module _ (s : List ℕ) where
         by_kind (kind_of s)
         (λ i nine.
         record {
-          is_kind_lem = refl;
+          of_kind = refl;
           nine_or_ten = record { at_least = omega arith; at_most = omega arith };
           of_ten = λ e. absurd (omega arith);
           of_nine = λ e. by_equal (kind_of s) 3 (λ three. inl three) (λ other. inr (omega (arith, i)));
         })
         (λ i ten.
         record {
-          is_kind_lem = refl;
+          of_kind = refl;
           nine_or_ten = record { at_least = omega arith; at_most = omega arith };
           of_ten = λ e.
               by_equal (kind_of s) 1

@@ -25,7 +25,7 @@ pub record Fields (system year month leap day : ℕ) : Type 0 where
 
 -- A whole record of a kind: ten bytes of kind 1 or 5, or nine of kind 3 or 4.
 pub record Whole (s : List ℕ) (kind : ℕ) : Type 0 where
-  pub is_kind_lem : kind ≡ kind_of s
+  pub of_kind : kind ≡ kind_of s
   pub nine_or_ten : Inside 9 10 (length s)
   pub of_ten : length s ≡ 10 → (kind ≡ 1) ⊎ (kind ≡ 5)
   pub of_nine : length s ≡ 9 → (kind ≡ 3) ⊎ (kind ≡ 4)

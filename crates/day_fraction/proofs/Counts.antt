@@ -52,8 +52,8 @@ module _ (d : ℕ) (some : 0 < d) (few : d < 2 ^ 16) where
     inside : cut < d
     inside = cut_below d f some below
 
-    pub not_above_lem : (c : ℕ) → c ≤ cut → T (le (rounded c d) f)
-    not_above_lem c h =
+    pub lies_not_above : (c : ℕ) → c ≤ cut → T (le (rounded c d) f)
+    lies_not_above c h =
         sizes→le (rounded c d) f (size c (omega (arith, inside))) f_size
         (at_most c d (num f) (den f) some (den_pos f) (size c (omega (arith, inside))) (own f float f_size below)
         (omega (arith, cut_least d f, mul-le-mul_right (den f) h)))

@@ -82,7 +82,7 @@ module _ (day : ℕ) (some : 0 < day) (few : day < 2 ^ 16) (f : Float) (float : 
   up_to : (c : ℕ) → c ≤ cut → T (p c)
   up_to c h =
       subst (λ x. T (le x f)) (sym (is_rounded c (omega (arith, inside))))
-      (counts.not_above_lem day some few f float (fraction_size f t).0 (fraction_size f t).1 c h)
+      (counts.lies_not_above day some few f float (fraction_size f t).0 (fraction_size f t).1 c h)
 
   day_past : (c : ℕ) → day ≤ c → c ≤ 2 * day → T (p c) → ⊥
   day_past c h within q =
@@ -148,4 +148,4 @@ module _ (day : ℕ) (some : 0 < day) (few : day < 2 ^ 16) (f : Float) (float : 
   pub count_is_largest : IsLargest day f (count_of day f)
   count_is_largest =
       let last = last_below p day cut inside (up_to cut (omega arith)) in
-      record { below = last.0; not_above_lem = last.1; none_larger = last.2 }
+      record { below = last.0; lies_not_above = last.1; none_larger = last.2 }

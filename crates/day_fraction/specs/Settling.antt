@@ -17,7 +17,7 @@ is_fraction f = le zero_float f && lt f one_float
 -- "The largest count of parts below D whose exported fraction is not above it."
 pub record IsLargest (in_day : ℕ) (f : Float) (count : ℕ) : Type 0 where
   pub below : count < in_day
-  pub not_above_lem : T (le (fraction_of in_day count) f)
+  pub lies_not_above : T (le (fraction_of in_day count) f)
   pub none_larger : (parts : ℕ) → count < parts → parts < in_day → T (le (fraction_of in_day parts) f) → ⊥
 
 -- As it is computed: the largest number below n with a property, 0 where there is none.

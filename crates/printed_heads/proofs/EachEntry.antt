@@ -24,5 +24,5 @@ each_entry heads i test here =
     let n = years_elapsed guantian (first_year + i) in
     record {
       span = span guantian (consistent 1) n;
-      register_day_lem = eqb-true _ _ (each is_head first_year heads test i here);
+      is_register_day = eqb-true _ _ (each is_head first_year heads test i here);
     }

@@ -38,7 +38,7 @@ of_guantian p = ap constants_of p.is_guantian
 
 -- A year has one head.
 head_is : (c : Constants) → Consistent c → (n r : ℕ) → IsHead c n r → r ≡ register_day c (head_of_year c n)
-head_is c ok n r h = omega (arith, h.register_day_lem, ap (month_head c) (span_first c ok h.span))
+head_is c ok n r h = omega (arith, h.is_register_day, ap (month_head c) (span_first c ok h.span))
 
 -- The entry of a year on the page is its head.
 pub at_year : {system year r : ℕ} → OnPage system year
@@ -67,7 +67,7 @@ says system year =
     let p = is_on system year on in
     let n = years_elapsed guantian year in
     let head : IsHead guantian n (register_day guantian (head_of_year guantian n)) =
-    record { span = span guantian (consistent 1) n; register_day_lem = omega (arith, p.year_inside) }
+    record { span = span guantian (consistent 1) n; is_register_day = omega (arith, p.year_inside) }
     in
     let of_system = subst (λ c. IsHead c (years_elapsed c year) (register_day guantian (head_of_year guantian n))) (sym (of_guantian p)) head in
     subst (Says system year) (answers {r = register_head guantian n} p head) (p, of_system))

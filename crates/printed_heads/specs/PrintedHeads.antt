@@ -23,7 +23,7 @@ pub record OnPage (system year : ℕ) : Type 0 where
 -- solstice's day, by the rule of Q-2.
 pub record IsHead (c : Constants) (n r : ℕ) : Type 0 where
   pub span : Span c n
-  pub register_day_lem : IsRegisterDay c r (year_head span)
+  pub is_register_day : IsRegisterDay c r (year_head span)
 
 -- What the page says of a common year, in words. That it is read from the 320 numbers no definition says: see `entry` in
 -- src/lib.rt.

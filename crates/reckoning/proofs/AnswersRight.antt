@@ -82,7 +82,7 @@ module _ (system year : ℕ) (s : InScope system year) where
       subst (IsSolstice c n) (step_answered qis 0 (omega arith))
       (record {
         accepted = refl;
-        day = omega (arith, r.solstice_day_lem, zero.0);
+        day = omega (arith, r.solstice_in_register, zero.0);
         remainder = zero.1;
         no_units = zero.2;
       })

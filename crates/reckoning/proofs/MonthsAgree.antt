@@ -26,8 +26,8 @@ module _ (c : Constants) (ok : Consistent c) (n : ℕ) (v : Year) (y : ListsMont
   holds : (i : ℕ) → i < v.count → leap_in v i ≡ 0 → HoldsSome c (y.span.first + i)
   holds i h e = ⊎_elim (λ p. p.1) (λ p. absurd (omega (arith, p.0))) (y.leap i h)
 
-  leap_number_lem : (i : ℕ) → i + 1 < v.count → leap_in v (i + 1) ≡ 1 → number_in v (i + 1) ≡ number_in v i
-  leap_number_lem i h leap =
+  leap_repeats : (i : ℕ) → i + 1 < v.count → leap_in v (i + 1) ≡ 1 → number_in v (i + 1) ≡ number_in v i
+  leap_repeats i h leap =
       let k = y.span.first + i in
       let e : y.span.first + (i + 1) ≡ k + 1 = omega arith in
       number_unique c ok (y.number (i + 1) h)
@@ -60,10 +60,10 @@ module _ (c : Constants) (ok : Consistent c) (n : ℕ) (v : Year) (y : ListsMont
       record {
         leap_just_when_none = λ i h. leap_just_when_none c ok n (y.span.first + i) (y.held i h) (y.leap i h);
         number_by_index = λ i h e. number_by_index c ok n (y.span.first + i) (y.held i h) (y.number i h) (holds i h e);
-        leap_number_lem = leap_number_lem;
+        leap_repeats = leap_repeats;
         indexes = rw y.count (indexes_all_told c ok y.span (held_in v) (λ i h. y.held i (omega (arith, y.count))));
         qi_inside = qi_inside;
-        moon_after_lem = λ i d e h is_d is_e. omega (arith, moon_is i d (omega arith) is_d, moon_is (i + 1) e h is_e);
+        next_moon = λ i d e h is_d is_e. omega (arith, moon_is i d (omega arith) is_d, moon_is (i + 1) e h is_e);
       }
 
 -- So in each system and every year in scope.

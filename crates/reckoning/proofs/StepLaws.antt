@@ -35,7 +35,7 @@ step_fits {c} {n} s u i r whole s_some u_some u-small next h =
       solstice_small = r.solstice_small;
       moment_small = omega (arith, steps_close c s u whole n);
       day = record {
-        from = omega (arith, r.solstice_day_lem);
+        from = omega (arith, r.solstice_in_register);
         before = omega (arith, r.next_solstice_day);
         small = omega (arith, r.next_solstice_day);
       };

@@ -49,7 +49,7 @@ pub record YearInRegister (c : Constants) (n : ℕ) : Type 0 where
   pub solstice_small : solstice c n < 2 ^ 62
   pub next_in_units : solstice c (n + 1) * c.units < 2 ^ 62
   pub next_in_pentad_units : solstice c (n + 1) * c.denominator < 2 ^ 62
-  pub solstice_day_lem : InRegister c (solstice_day c n)
+  pub solstice_in_register : InRegister c (solstice_day c n)
   pub next_solstice_day : InRegister c (solstice_day c (n + 1))
   pub head : (k : ℕ) → first_month c n ≤ k → k ≤ first_month c (n + 1) → InRegister c (month_head c k)
 

@@ -64,7 +64,7 @@ pub record MonthsAgree (c : Constants) (n : ℕ) (v : Year) : Type 0 where
   pub leap_just_when_none : (i : ℕ) → i < v.count → (leap_in v i ≡ 1) ↔ (held_in v i ≡ none_held)
   -- otherwise an index is told, 0 to 11, and the number is that of the index; a leap month has that of the month before
   pub number_by_index : (i : ℕ) → i < v.count → leap_in v i ≡ 0 → (held_in v i < 12) × (number_in v i ≡ number_of (held_in v i))
-  pub leap_number_lem : (i : ℕ) → i + 1 < v.count → leap_in v (i + 1) ≡ 1 → number_in v (i + 1) ≡ number_in v i
+  pub leap_repeats : (i : ℕ) → i + 1 < v.count → leap_in v (i + 1) ≡ 1 → number_in v (i + 1) ≡ number_in v i
   -- the indexes held rise from 0 to 11 without a gap, leap months passed over
   pub indexes : indexes_told (held_in v) v.count ≡ 0 ∷ 1 ∷ 2 ∷ 3 ∷ 4 ∷ 5 ∷ 6 ∷ 7 ∷ 8 ∷ 9 ∷ 10 ∷ 11 ∷ []
   -- the day of the middle qi held, told as a register day, lies between the heads
@@ -72,5 +72,5 @@ pub record MonthsAgree (c : Constants) (n : ℕ) (v : Year) : Type 0 where
       → IsRegisterDay c r (day_of c c.units (middle_qi c n (held_in v i)))
       → (head_in v i ≤ r) × (r < head_in v (i + 1))
   -- from one new moon of the year to the next, by the count days of their heads and their remainders, are M parts
-  pub moon_after_lem : (i d e : ℕ) → i + 1 < v.count → IsRegisterDay c (head_in v i) d → IsRegisterDay c (head_in v (i + 1)) e
+  pub next_moon : (i d e : ℕ) → i + 1 < v.count → IsRegisterDay c (head_in v i) d → IsRegisterDay c (head_in v (i + 1)) e
       → e * c.lunar + remainder_in v (i + 1) ≡ d * c.lunar + remainder_in v i + c.month

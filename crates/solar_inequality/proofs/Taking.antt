@@ -46,11 +46,11 @@ module _ (season : Season) (x : ℕ) where
     pub takes : Takes season x (taken_of season x)
     takes =
         by_limit (Takes season x)
-        (λ h. Takes.as_it_is_lem h refl refl)
+        (λ h. Takes.stays_as_it_is h refl refl)
         (λ h. Takes.beyond h (omega arith) refl)
 
     pub takes_alone : (t : Taken) → Takes season x t → t ≡ taken_of season x
-    takes_alone t (Takes.as_it_is_lem h parts is) = (λ j. record { parts = parts j; season = is j }) ∙ taken_as_it_is h
+    takes_alone t (Takes.stays_as_it_is h parts is) = (λ j. record { parts = parts j; season = is j }) ∙ taken_as_it_is h
     takes_alone t (Takes.beyond h parts is) =
         let left : t.parts ≡ half_year - x * in_day = omega arith in
         (λ j. record { parts = left j; season = is j }) ∙ taken_beyond h

@@ -11,7 +11,7 @@ use Rattle.solar_inequality.specs.Limits.{in_day, limit_of, half_year, other}
 -- What is taken of x days after a solstice.
 pub data Takes (season : Season) (x : ℕ) (t : Taken) : Type 0 where
   -- "If x is at most L, take x as it is."
-  as_it_is_lem : x * in_day ≤ (limit_of season).parts → t.parts ≡ x * in_day → t.season ≡ season → Takes season x t
+  stays_as_it_is : x * in_day ≤ (limit_of season).parts → t.parts ≡ x * in_day → t.season ≡ season → Takes season x t
   -- "Beyond, take 182 and 7,480/12,030 less x, and the other season's L." Said by a sum, since a difference is cut at 0.
   beyond : (limit_of season).parts < x * in_day
       → t.parts + x * in_day ≡ half_year

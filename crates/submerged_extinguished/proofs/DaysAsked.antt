@@ -51,7 +51,7 @@ module _ (c : Constants) (n : ℕ) (r : YearInRegister c n) where
         constants_fit = r.constants_fit;
         in_register = subst (InRegister c) (sym day_back) (first_head c n r);
         back = ap (register_day c) day_back;
-        is_head_lem = is_its_months_head n ok day_back;
+        begins_month = is_its_months_head n ok day_back;
       }
 
   months_by_days : months_in (register_day c (head_of_year c (n + 1)) - head) ≡ first_month c (n + 1) - first_month c n

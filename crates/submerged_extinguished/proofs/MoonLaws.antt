@@ -51,9 +51,9 @@ module _ (c : Constants) (consistent : Consistent c) where
     )
 
     -- The next one as the code finds it.
-    pub moon_after_lem : InRegister c (month_head c k) → moon_after c rule (moon_at c k) ≡ moon_at c (k + 1)
+    pub next_moon : InRegister c (month_head c k) → moon_after c rule (moon_at c k) ≡ moon_at c (k + 1)
     unfolding moon_after
-    moon_after_lem there =
+    next_moon there =
         by_order r rule.shortfall
         (λ l.
         let next = next_short l in
@@ -65,7 +65,7 @@ module _ (c : Constants) (consistent : Consistent c) where
         simp (le-ltb r rule.shortfall l) (λ j. record { day = day j; remainder = sym next.1 j }))
 
   -- The new moon of a month, by the day that is its head.
-  module _ (d : ℕ) (is_head_lem : month_head c (month_of_day c d) ≡ d) where
+  module _ (d : ℕ) (begins_month : month_head c (month_of_day c d) ≡ d) where
     abbrev left_over : ℕ
     left_over = ((d + 1) * c.lunar - 1) % c.month
 
@@ -76,5 +76,5 @@ module _ (c : Constants) (consistent : Consistent c) where
           consistent.lunar_some,
           div-add-mod' ((d + 1) * c.lunar - 1) c.month,
           moon_told c consistent (month_of_day c d),
-          ap (λ x. x * c.lunar) is_head_lem,
+          ap (λ x. x * c.lunar) begins_month,
         )

@@ -23,7 +23,7 @@ use Rattle.submerged_extinguished.specs.declared.rules.Rule.{Rule}
 use Rattle.submerged_extinguished.specs.Answers.{extinguished_at, no_moons, extinguished_from}
 use Rattle.submerged_extinguished.specs.Moons.{moon_at, moon_after, extinguished_on}
 use Rattle.submerged_extinguished.specs.WordBounds.{RuleFits, HeadFits, MoonFits}
-use Rattle.submerged_extinguished.proofs.MoonLaws.{moon_after_lem, left_of_day}
+use Rattle.submerged_extinguished.proofs.MoonLaws.{next_moon, left_of_day}
 
 -- The first new moon, by the year's head r: the code's numbers fit.
 module _ {c : Constants} {r : ℕ} (f : HeadFits c r) where
@@ -36,7 +36,7 @@ module _ {c : Constants} {r : ℕ} (f : HeadFits c r) where
       omega (arith, mul-le-mul_right c.lunar small, f.constants_fit.lunar_days)
 
   left : new_moon_remainder c (month_of_day c d) + ((d + 1) * c.lunar - 1) % c.month + 1 ≡ c.lunar
-  left = left_of_day c f.constants_fit.consistent d f.is_head_lem
+  left = left_of_day c f.constants_fit.consistent d f.begins_month
 
   pub left_fits : ((d + 1) * c.lunar - 1) % c.month ≤ c.lunar - 1
   left_fits = omega (arith, left)
@@ -44,7 +44,7 @@ module _ {c : Constants} {r : ℕ} (f : HeadFits c r) where
   pub first_moon_lem : {m : Moon} → m ≡ record { day = r; remainder = c.lunar - 1 - ((d + 1) * c.lunar - 1) % c.month }
       → m ≡ moon_at c (month_of_day c d)
   first_moon_lem is =
-      let day : r ≡ register_day c (month_head c (month_of_day c d)) = sym f.back ∙ ap (register_day c) (sym f.is_head_lem) in
+      let day : r ≡ register_day c (month_head c (month_of_day c d)) = sym f.back ∙ ap (register_day c) (sym f.begins_month) in
       let remainder : c.lunar - 1 - ((d + 1) * c.lunar - 1) % c.month ≡ (moon_at c (month_of_day c d)).remainder = omega (arith, left) in
       is ∙ (λ j. record { day = day j; remainder = remainder j })
 
@@ -99,7 +99,7 @@ module _ {c : Constants} {rule : Rule} {count : ℕ} {start : Moon} where
               let on : k + i + 1 ≡ k + (i + 1) = omega arith in (
                 next_is
                     ∙ ap (moon_after c rule) so.0
-                    ∙ moon_after_lem c ok rule f.holds (k + i) (there.head i (omega arith))
+                    ∙ next_moon c ok rule f.holds (k + i) (there.head i (omega arith))
                     ∙ ap (moon_at c) on,
                 filled_more _ _ _ _ _ so.1 (one-is ∙ ap (extinguished_on rule) so.0),
               );

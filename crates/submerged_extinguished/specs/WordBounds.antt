@@ -22,7 +22,7 @@ pub record HeadFits (c : Constants) (r : ℕ) : Type 0 where
   pub constants_fit : ConstantsFit c
   pub in_register : InRegister c (count_day c r)
   pub back : register_day c (count_day c r) ≡ r
-  pub is_head_lem : month_head c (month_of_day c (count_day c r)) ≡ count_day c r
+  pub begins_month : month_head c (month_of_day c (count_day c r)) ≡ count_day c r
 
 -- A new moon with the next one within the register.
 pub record MoonFits (c : Constants) (rule : Rule) (m : Moon) : Type 0 where

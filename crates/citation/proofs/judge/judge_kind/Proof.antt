@@ -109,8 +109,8 @@ returns-2 c =
     let one = c.before.before.before in
     let month = month_found one.before in
     let fields = fields_known month in
-    let is_kind_lem = (start (by_month (fields_read month))).requires.is_kind in
-    kind_one _ fields.0 (sym is_kind_lem ∙ one.if3.true) c.judge-day.ensures
+    let of_kind = (start (by_month (fields_read month))).requires.is_kind in
+    kind_one _ fields.0 (sym of_kind ∙ one.if3.true) c.judge-day.ensures
     fields.1
     fields.2
     fields.3
@@ -127,8 +127,8 @@ returns-3 c =
     let five = c.before.before in
     let month = month_found five.before in
     let fields = fields_known month in
-    let is_kind_lem = (start (by_month (fields_read month))).requires.is_kind in
-    let not_one : kind_of (bytes month) ≡ 1 → ⊥ = λ one. five.if3.false (is_kind_lem ∙ one) in
+    let of_kind = (start (by_month (fields_read month))).requires.is_kind in
+    let not_one : kind_of (bytes month) ≡ 1 → ⊥ = λ one. five.if3.false (of_kind ∙ one) in
     kind_five _ fields.0 (⊎_elim (λ one. absurd (not_one one)) (λ k. k) (has_month_lem month)) c.judge-name.ensures
     fields.1
     fields.2
@@ -183,9 +183,9 @@ judge-register-day-requires c κs = search rules
 returns-5 : tie.Need-returns-5
 returns-5 c =
     let by_day = c.before.before.before.before.before.before in
-    let is_kind_lem = (without_month by_day.before).requires.is_kind in
+    let of_kind = (without_month by_day.before).requires.is_kind in
     let four = ⊎_elim (λ three. absurd (by_day.if4.false three)) (λ k. k) (three_or_four by_day.before) in
-    kind_four _ (omega arith) (sym is_kind_lem ∙ four) c.judge-register-day.ensures (omega arith)
+    kind_four _ (omega arith) (sym of_kind ∙ four) c.judge-register-day.ensures (omega arith)
 
 pub judge-kind-spec : {M : Type 1} → statement M
 judge-kind-spec =
