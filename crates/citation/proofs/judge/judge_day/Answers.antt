@@ -1,0 +1,31 @@
+use mathlib.Core.Path.{◌≡◌, sym, ◌∙◌}
+use mathlib.Core.Bool.{false}
+use native.Mathlib.Omega.{arith}
+use Rattle.reckoning.specs.ComputedRefusals.{outside}
+use Rattle.reckoning.proofs.RefusalCases.{inside_of}
+use Rattle.reckoning.proofs.AnswersFit.{month_fits}
+use Rattle.citation.proofs.JudgementCases.{day_wrong_lem, day_right}
+use Rattle.citation.proofs.judge.judge_day.Goals as goal
+use Rattle.citation.proofs.judge.judge_day.Goals.{Else-outside}
+
+pub returns-then-outside : goal.returns-then-outside
+returns-then-outside c =
+    let found = c.requires.1 in
+    let wrong = sym c.outside.ensures ∙ c.if-outside.true in
+    c.refuse.ensures ∙ day_wrong_lem _ _ _ _ _ _ found.is_month found.not_refused wrong
+
+pub overflow_add-m : goal.overflow_add-m
+overflow_add-m c =
+    let small = month_fits _ _ _ _ _ c.requires.1.is_month c.requires.1.not_refused in
+    omega (arith, c.requires.0)
+
+pub overflow_sub-m : goal.overflow_sub-m
+overflow_sub-m c =
+    let args = c.args in
+    let least = inside_of 1 args.m.length args.day ((sym c.outside.ensures ∙ c.if-outside.false)) in
+    omega arith
+
+pub returns : goal.returns
+returns c =
+    let found = c.requires.1 in
+    c.accept.ensures ∙ day_right _ _ _ _ _ _ found.is_month found.not_refused ((sym c.outside.ensures ∙ c.if-outside.false))
