@@ -13,7 +13,7 @@ found : (c : goal.After-not_above-after_guess) → let day = c.args.in_day in
     (guess_of day f + c.not_above-at_guess.result + c.not_above-after_guess.result ≡ count_of day f + 1) × (count_of day f < day)
 unfolding of_bits
 found c =
-    total _ _ c.requires.0 c.fits.in-day.fits (subst T (sym c.good.1.0.1) tt) c.requires.1 c.not_above-at_guess.ensures c.not_above-after_guess.ensures
+    total _ _ c.requires.0 c.ranges.in_day.fits (subst T (sym c.well_formed.1.0.1) tt) c.requires.1 c.not_above-at_guess.ensures c.not_above-after_guess.ensures
 
 pub float_to_bits-guess : goal.float_to_bits-guess
 unfolding of_bits

@@ -12,23 +12,23 @@ returns-then-in_day-eq0 c = no_parts _ _ c.if-in_day-eq0.true
 
 pub float_to_bits-pattern : goal.float_to_bits-pattern
 unfolding of_bits
-float_to_bits-pattern c = pattern_number _ ((subst T (sym c.well-formed.1.0.1) tt)) c.if-f.true
+float_to_bits-pattern c = pattern_number _ ((subst T (sym c.well_formed.1.0.1) tt)) c.if-f.true
 
 pub count-requires : goal.count-requires
 unfolding of_bits
 count-requires c =
-    (omega (arith, c.if-in_day-eq0.false), is_fraction_lem _ ((subst T (sym c.well-formed.1.0.1) tt)) c.if-f.true c.if-pattern-le-NEGATIVE_ZERO.true)
+    (omega (arith, c.if-in_day-eq0.false), is_fraction_lem _ ((subst T (sym c.well_formed.1.0.1) tt)) c.if-f.true c.if-pattern-le-NEGATIVE_ZERO.true)
 
 pub returns-then-pattern-le-NEGATIVE_ZERO : goal.returns-then-pattern-le-NEGATIVE_ZERO
 unfolding of_bits
 returns-then-pattern-le-NEGATIVE_ZERO c =
     ap Count c.count.ensures
     ∙ settled_fraction _ _ (omega (arith, c.if-in_day-eq0.false))
-    (is_fraction_lem _ ((subst T (sym c.well-formed.1.0.1) tt)) c.if-f.true c.if-pattern-le-NEGATIVE_ZERO.true)
+    (is_fraction_lem _ ((subst T (sym c.well_formed.1.0.1) tt)) c.if-f.true c.if-pattern-le-NEGATIVE_ZERO.true)
 
 pub returns-then-f : goal.returns-then-f
 unfolding of_bits
-returns-then-f c = negative _ ((subst T (sym c.well-formed.1.0.1) tt)) c.if-f.true _ c.if-pattern-le-NEGATIVE_ZERO.false
+returns-then-f c = negative _ ((subst T (sym c.well_formed.1.0.1) tt)) c.if-f.true _ c.if-pattern-le-NEGATIVE_ZERO.false
 
 pub returns : goal.returns
 unfolding of_bits
