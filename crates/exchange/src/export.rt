@@ -33,6 +33,6 @@ pub extern "C" fn chiselbrow_export(
         return OUTPUT as u64 * REFUSAL_UNIT;
     }
     let written = row::of_fraction(RegisterDay(day), fraction(in_day, parts as u32));
-    bytes::copy(&written, output);
+    output[..row::SIZE].copy_from_slice(&written);
     if units == 0 { 0 } else { 1 }
 }
