@@ -8,10 +8,10 @@ use Rattle.citation.proofs.judge.judge.Goals as goal
 use Rattle.citation.proofs.judge.judge.Goals.{Then-is_whole}
 
 pub bounds-s-2 : goal.bounds-s-2
-bounds-s-2 c = omega (arith, (whole_record _ ((sym c.is_whole.ensures ∙ c.if-is_whole.true))))
+bounds-s-2 c = omega (arith, whole_record c.args.s.now (sym c.is_whole.ensures ∙ c.if-is_whole.true))
 
 pub bounds-s-3 : goal.bounds-s-3
-bounds-s-3 c = omega (arith, (whole_record _ ((sym c.is_whole.ensures ∙ c.if-is_whole.true))))
+bounds-s-3 c = omega (arith, whole_record c.args.s.now (sym c.is_whole.ensures ∙ c.if-is_whole.true))
 
 pub judge_kind-requires : goal.judge_kind-requires
 judge_kind-requires c = subst (Whole _) (sym c.le16.ensures.0) ((whole_record _ ((sym c.is_whole.ensures ∙ c.if-is_whole.true))))

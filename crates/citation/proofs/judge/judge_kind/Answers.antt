@@ -9,7 +9,7 @@ use Rattle.citation.proofs.judge.judge_kind.Goals.{After-month-m, Else-s-eq10}
 
 pub returns-then-m-ne0 : goal.returns-then-m-ne0
 returns-then-m-ne0 c =
-    kind_with_month _ (omega arith) ((let known = c.requires in ⊎_elim (λ one. inl (sym known.is_kind ∙ one)) (λ five. inr (sym known.is_kind ∙ five)) (known.of_ten c.if-s-eq10.true))) c.month-m.ensures
+    kind_with_month _ (omega arith) ((let known = c.requires in ⊎_elim (λ one. inl (sym known.of_kind ∙ one)) (λ five. inr (sym known.of_kind ∙ five)) (known.of_ten c.if-s-eq10.true))) c.month-m.ensures
     c.if-m-ne0.true
     c.refuse_telling.ensures
     (omega arith)
@@ -18,23 +18,21 @@ returns-then-m-ne0 c =
 
 pub returns-then-kind-eq1 : goal.returns-then-kind-eq1
 returns-then-kind-eq1 c =
-    let fields = ((omega arith, omega arith, omega arith, omega arith)) in
-    let of_kind = c.requires.is_kind in
-    kind_one _ fields.0 (sym of_kind ∙ c.if-kind-eq1.true) c.judge_day.ensures
-    fields.1
-    fields.2
-    fields.3
+    let of_kind = c.requires.of_kind in
+    kind_one _ (omega arith) (sym of_kind ∙ c.if-kind-eq1.true) c.judge_day.ensures
+    (omega arith)
+    (omega arith)
+    (omega arith)
     (omega arith)
 
 pub returns-then-s-eq10 : goal.returns-then-s-eq10
 returns-then-s-eq10 c =
-    let fields = ((omega arith, omega arith, omega arith, omega arith)) in
-    let of_kind = c.requires.is_kind in
+    let of_kind = c.requires.of_kind in
     let not_one : kind_of ((c.args.s.now)) ≡ 1 → ⊥ = λ one. c.if-kind-eq1.false (of_kind ∙ one) in
-    kind_five _ fields.0 (⊎_elim (λ one. absurd (not_one one)) (λ k. k) ((let known = c.requires in ⊎_elim (λ one. inl (sym known.is_kind ∙ one)) (λ five. inr (sym known.is_kind ∙ five)) (known.of_ten c.if-s-eq10.true)))) c.judge_name.ensures
-    fields.1
-    fields.2
-    fields.3
+    kind_five _ (omega arith) (⊎_elim (λ one. absurd (not_one one)) (λ k. k) ((let known = c.requires in ⊎_elim (λ one. inl (sym known.of_kind ∙ one)) (λ five. inr (sym known.of_kind ∙ five)) (known.of_ten c.if-s-eq10.true)))) c.judge_name.ensures
+    (omega arith)
+    (omega arith)
+    (omega arith)
     refl
 
 pub returns-then-kind-eq3 : goal.returns-then-kind-eq3
@@ -42,6 +40,6 @@ returns-then-kind-eq3 c = kind_three _ (omega arith) (omega arith) c.judge_ordin
 
 pub returns : goal.returns
 returns c =
-    let of_kind = c.requires.is_kind in
+    let of_kind = c.requires.of_kind in
     let four = ⊎_elim (λ three. absurd (c.if-kind-eq3.false three)) (λ k. k) ((let known = c.requires in known.of_nine (omega (arith, known.nine_or_ten, c.if-s-eq10.false)))) in
     kind_four _ (omega arith) (sym of_kind ∙ four) c.judge_register_day.ensures (omega arith)

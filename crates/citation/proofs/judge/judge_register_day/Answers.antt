@@ -9,9 +9,9 @@ returns-then-d-ne0 c = c.refuse.ensures ∙ date_refused _ _ _ c.date-d.ensures 
 
 pub accept-requires : goal.accept-requires
 accept-requires c =
-    let small = date_fits _ _ c.date-d.ensures c.if-d-ne0.left in
+    let small = date_fits _ _ c.date-d.ensures c.if-d-ne0.false in
     omega arith
 
 pub returns : goal.returns
 returns c =
-    c.accept.ensures ∙ date_accepted _ _ _ c.date-d.ensures c.if-d-ne0.left
+    c.accept.ensures ∙ date_accepted _ _ _ c.date-d.ensures c.if-d-ne0.false

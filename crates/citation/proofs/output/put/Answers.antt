@@ -39,7 +39,10 @@ shape_of-output-then-output-ge10 c = simp length-set (omega arith)
 pub returns-then-output-ge10 : goal.returns-then-output-ge10
 unfolding elements
 returns-then-output-ge10 c =
-    put_with_room c.args.output.now c.args.bytes ((search rules)) c.if-output-ge10.true
+    let written = put_with_room c.args.output.now c.args.bytes (search rules) c.if-output-ge10.true in
+    record { value = written.0; output_after = written.1 }
 
 pub returns : goal.returns
-returns c = put_without_room c.args.output.now c.args.bytes (omega arith)
+returns c =
+    let left = put_without_room c.args.output.now c.args.bytes (omega arith) in
+    record { value = left.0; output_after = left.1 }
