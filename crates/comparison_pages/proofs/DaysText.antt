@@ -42,7 +42,7 @@ module _ (z : ℤ) (small : nat_abs z < 2 ^ 32) where
   stored = to_z w64 (of_z w64 z)
 
   pub is_stored : stored ≡ z
-  is_stored = to_z-of_z (record { sfits = omega (arith, mag_most z) })
+  is_stored = to_z-of_z {w = w64} (record { sfits = omega (arith, mag_most z) })
 
   negated_is : pos 0 -ℤ stored ≡ neg_ℤ z
   negated_is = +ℤ_idl (neg_ℤ stored) ∙ ap neg_ℤ is_stored
@@ -52,7 +52,7 @@ module _ (z : ℤ) (small : nat_abs z < 2 ^ 32) where
 
   pub negated : lt_z stored (pos 0) ≡ true → to_z w64 (of_z w64 (pos 0 -ℤ stored)) ≡ pos (nat_abs z)
   negated e =
-      to_z-of_z negated_fits ∙ negated_is ∙ size_of_negative z (subst (λ x. lt_z x (pos 0) ≡ true) is_stored e)
+      to_z-of_z {w = w64} negated_fits ∙ negated_is ∙ size_of_negative z (subst (λ x. lt_z x (pos 0) ≡ true) is_stored e)
 
   pub not_negated : lt_z stored (pos 0) ≡ false → stored ≡ pos (nat_abs z)
   not_negated e = is_stored ∙ size_of_other z (subst (λ x. lt_z x (pos 0) ≡ false) is_stored e)

@@ -58,10 +58,10 @@ module _ (system day parts : ℕ) (before : List ℕ) where
   left_alone some = simp (ne_eqb refusal_here 0 some)
 
   pub written : refusal_here ≡ 0 → {row : List ℕ} → row ≡ row_of day (fraction_of (parts_in_day system) parts)
-      → take (length row) row ++ drop (length row) before ≡ exported_into system day parts before
+      → row ++ drop 13 before ≡ exported_into system day parts before
   unfolding exported_into
   written accepted is =
-      ap (λ r. take (length r) r ++ drop (length r) before) is ∙ simp (eq-eqb refusal_here 0 accepted)
+      ap (λ r. r ++ drop 13 before) is ∙ simp (eq-eqb refusal_here 0 accepted)
 
 pub refused : (system day parts units : ℕ) (before : List ℕ) (number : ℕ) → export_refusal system parts (length before) ≡ number
     → (number ≡ 0 → ⊥)

@@ -132,7 +132,7 @@ module _ {input before out : List ℕ} {read written n : ℕ} (κ : PuttingLines
   line_has_room = omega (arith, here.0, κ.written_within, κ.same_length)
 
   pub less_left : length input - (read + n) < length input - read
-  less_left = omega (arith, here.1.at_least_lem, record_within)
+  less_left = omega (arith, here.1.at_least, record_within)
 
   pub putting_more : {out' : List ℕ} {written' n' : ℕ}
       → Wrote out written (line_of (take (read + n - read) (drop read input))) out' written'

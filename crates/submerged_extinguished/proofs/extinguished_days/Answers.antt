@@ -11,11 +11,11 @@ returns-then-refusal-ne0 c =
 
 pub of_months-requires : goal.of_months-requires
 of_months-requires c =
-    months_fit _ _ c.days-days.ensures c.outside.ensures c.if-days-ne0.false c.if2.false
-    c.months-in.ensures
+    months_fit _ _ c.days-days.ensures c.outside.ensures c.if-outside.false c.if-refusal-ne0.false
+    c.months_in-count.ensures
 
 pub returns : goal.returns
 returns c =
-    returns_days _ _ c.days-days.ensures c.outside.ensures c.if-days-ne0.false c.if2.false
-    c.months-in.ensures
+    returns_days _ _ c.days-days.ensures c.outside.ensures c.if-outside.false c.if-refusal-ne0.false
+    c.months_in-count.ensures
     c.of_months.ensures

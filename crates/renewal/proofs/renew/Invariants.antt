@@ -1,0 +1,10 @@
+use Prim.Native.Nat.{◌-◌}
+use lib.ListN.{length}
+use Rattle.renewal.proofs.Renewing.{Renewing}
+use Rattle.renewal.proofs.renew.Given as goal
+
+abbrev pub invariant-loop-n : goal.invariant-loop-n
+invariant-loop-n l = Renewing l.initial.buffer l.buffer l.at l.refused l.n
+
+abbrev pub decreases-loop-n : goal.decreases-loop-n
+decreases-loop-n l = length l.buffer - l.at
