@@ -42,8 +42,10 @@ BY_HAND = {
     "outside-years": "years_outside",
     "wrong-year": "bad_year",
 }
-# Lemmas that were in snake case already, each under the name of a definition beside it.
+# Lemmas under the name of a definition beside them.
 IN_FILE = {
+    "crates/calendar/proofs/LeapMonths.antt": {"leap-number": "leap_number_lem"},
+    "crates/reckoning/proofs/RequestsEnd.antt": {"leap-number": "leap_number_lem"},
     "crates/reckoning/proofs/MonthsRight.antt": {"head_at": "head_at_lem"},
     "crates/lines/proofs/AllRecords.antt": {"no_record": "no_record_lem"},
     "crates/renewal/proofs/Renewing.antt": {"no_record": "no_record_lem"},

@@ -88,8 +88,8 @@ module _ (c : Constants) (ok : Consistent c) where
       ))
       (found_to n most (omega arith)))
 
-  pub leap_repeats : (n : ℕ) → LeapNumber c n (leap_number c n)
-  leap_repeats n =
+  pub leap_number_lem : (n : ℕ) → LeapNumber c n (leap_number c n)
+  leap_number_lem n =
       ⊎_elim
       inl
       (λ none. inr (none.0, λ number h. none.1 number (leap_inside n number h).at_most h))
@@ -124,10 +124,10 @@ module _ (c : Constants) (ok : Consistent c) where
       lt-ltb (month_of_qi c (qi_of_number n number) + 1) (month_of_qi c (qi_of_number n number + 1))
       (omega (arith, ap (month_of_qi c) qi, ap (month_of_qi c) next, none_leap n at at s.none (omega arith)))
       in
-      leap_number_unique n number (leap_number c n) (inl (has_leap n number (omega arith) follows)) (leap_repeats n)
+      leap_number_unique n number (leap_number c n) (inl (has_leap n number (omega arith) follows)) (leap_number_lem n)
 
   pub number_past_year : (n at : ℕ) → LeapBetween c n at (at + 1) → 12 ≤ at → 0 ≡ leap_number c n
   number_past_year n at s l =
       let e : 12 * (n + 1) ≡ 12 * n + 12 = omega arith in
       let twelve : first_month c (n + 1) ≡ first_month c n + 12 = ap (month_of_qi c) e ∙ none_leap n at 12 s.none l in
-      leap_number_unique n 0 (leap_number c n) (inr (refl, λ number h. none_of_twelve n number twelve h)) (leap_repeats n)
+      leap_number_unique n 0 (leap_number c n) (inr (refl, λ number h. none_of_twelve n number twelve h)) (leap_number_lem n)

@@ -16,7 +16,7 @@ use Rattle.calendar.proofs.Rising.{by_order}
 use Rattle.calendar.proofs.Reckoned.{reckoned, month_from, month_before}
 use Rattle.calendar.proofs.Spans.{span, span_first, span_next, in_year, within}
 use Rattle.calendar.proofs.EveryCalendar.{in_its_year, years_rise, year_from, year_before}
-use Rattle.calendar.proofs.LeapMonths.{leap_repeats}
+use Rattle.calendar.proofs.LeapMonths.{leap_number_lem}
 use Rattle.calendar.proofs.Laws.{numbered, leap_follows_lem, ordinary_cited, leap_cited}
 use Rattle.reckoning.specs.Scope.{SystemInScope, InScope, DayInScope}
 use Rattle.reckoning.specs.CommonYears.{common_year}
@@ -163,7 +163,7 @@ month_outcome system year number leap =
     (⊎_elim (λ out. out number_inside) (λ out. out mark_inside))
     (one, no_leap)
     told
-    (leap_repeats c ok n)
+    (leap_number_lem c ok n)
     (sym (leap_lacks c n number leap told e f (λ z. omega arith) g ∙ answer s)))))))
 
 -- A register day is one of years 1 to 3000, or refused.
