@@ -20,7 +20,7 @@ use Rattle.calendar.proofs.EveryCalendar.{behind_most, head_monotone, month_from
 use Rattle.calendar.proofs.EveryCalendar.{qi_unique, qi_of_held, count_least, count_most, in_its_year, year_unique}
 use Rattle.calendar.proofs.EveryCalendar.{month_again, twelve_hold, thirteen_one_lacks}
 use Rattle.calendar.proofs.Reckoned.{reckoned}
-use Rattle.calendar.proofs.Spans.{span, span_first, span_next, in_year, within}
+use Rattle.calendar.proofs.Spans.{span_first, span_next, in_year, within}
 use Rattle.calendar.proofs.Numbers.{month_of_held, held_of_holds, holds_of_held}
 use Rattle.calendar.proofs.Numbers.{number_unique, bears_its_number, mark_unique, marked}
 

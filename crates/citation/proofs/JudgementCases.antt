@@ -6,7 +6,6 @@ use mathlib.Core.Logic.{⊎_elim}
 use mathlib.Core.List.{List}
 use native.Mathlib.Decide.{ℕ_discrete}
 use native.Mathlib.Omega.{arith}
-use lib.ListN.{length}
 use Rattle.reckoning.specs.RefusalNumbers.{DAY}
 use Rattle.citation.specs.Record.{kind_of, system_of}
 use Rattle.citation.specs.Record.{year_field, month_field, leap_field, day_field, name_field, ordinal_field, register_day_field}

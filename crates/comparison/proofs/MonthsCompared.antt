@@ -1,10 +1,10 @@
 -- Place by place, the values of two years say of their months what the reckoning says.
 use Prim.Native.Nat.{ℕ, ◌+◌, ◌-◌, ◌^◌, ◌≤◌, ◌<◌}
 use mathlib.Core.Path.{◌≡◌, sym, subst, ap, ◌∙◌}
-use mathlib.Core.Logic.{◌⊎◌, ⊎_elim}
+use mathlib.Core.Logic.{⊎_elim}
 use mathlib.Core.Bool.{true, false, true≢false, not}
 use native.Mathlib.Omega.{arith}
-use lib.IntN.{pos, ◌+ℤ◌, ◌-ℤ◌, +ℤ_comm, -ℤ-+ℤ_cancel}
+use lib.IntN.{pos, ◌-ℤ◌, +ℤ_comm, -ℤ-+ℤ_cancel}
 use borrow.Author.Tests.{not-true}
 use Rattle.calendar.specs.declared.data.Constants.{Constants}
 use Rattle.calendar.specs.Systems.{constants_of, years_elapsed}

@@ -6,7 +6,7 @@ use native.Mathlib.Nat.{mul-le-mul_right, lt_of_mul-lt-mul_right}
 use native.Mathlib.Omega.{arith}
 use lib.Dec.{T}
 use lib.IntN.{pos}
-use lib.Ieee.{Float, binary64, up, is_nan, le, fits, of_int}
+use lib.Ieee.{Float, binary64, is_nan, le, fits, of_int}
 use lib.Ieee.Fits.{div-fits}
 use lib.Ieee.Order.{round_mono}
 use lib.Ieee.Positive.{num, den, den_pos, through}

@@ -12,7 +12,7 @@ use lib.Ieee.Exact.{HasValue, odd_sign}
 use lib.Ieee.Back.{round_whole}
 use lib.Ieee.Order.{round_mono, kept, drop}
 use lib.Ieee.Positive.{num, den, den_pos, value→cross, through}
-use lib.Ieee.Scale.{round_same, finite}
+use lib.Ieee.Scale.{round_same}
 use Rattle.day_fraction.specs.Fraction.{fraction_of}
 use Rattle.day_fraction.proofs.Sizes.{is_size, le→sizes}
 

@@ -12,7 +12,7 @@ use Rattle.solar_inequality.specs.declared.data.Season.{Season}
 use Rattle.solar_inequality.specs.declared.data.Season.TheVariants.{Winter, Summer}
 use Rattle.solar_inequality.specs.declared.taken.Taken.{Taken}
 use Rattle.solar_inequality.specs.Limits.{in_day, winter_limit, summer_limit, limit_of, half_year, other}
-use Rattle.solar_inequality.specs.Outcome.{Takes, AmountSays, Outcome}
+use Rattle.solar_inequality.specs.Outcome.{AmountSays, Outcome}
 use Rattle.solar_inequality.specs.Answers.{as_it_is, left_of_half_year, taken_of, amount_taken, answer_of}
 use Rattle.solar_inequality.proofs.Answering.{refused_past, answered_by}
 use Rattle.solar_inequality.proofs.LimitLaws as Limits

@@ -4,7 +4,6 @@ use mathlib.Core.Path.{◌≡◌, sym, ap, subst, ◌∙◌}
 use native.Mathlib.Omega.{arith}
 use borrow.Author.Tests.{lt-ltb, le-ltb}
 use Rattle.reckoning.specs.RefusalNumbers.{DAY}
-use Rattle.solar_inequality.specs.declared.data.Answer.{Answer}
 use Rattle.solar_inequality.specs.declared.data.Season.{Season}
 use Rattle.solar_inequality.specs.declared.limits.Limit.{Limit}
 use Rattle.solar_inequality.specs.declared.taken.Taken.{Taken}

@@ -9,7 +9,6 @@ use Rattle.calendar.specs.declared.data.Constants.{Constants}
 use Rattle.calendar.specs.Systems.{constants_of, years_elapsed, register_day, count_day}
 use Rattle.calendar.specs.Consistent.{Consistent}
 use Rattle.calendar.specs.ClosedForms.{month_of_day, first_month, head_of_year}
-use Rattle.calendar.proofs.EachSystem.{consistent}
 use Rattle.calendar.proofs.Laws.{year_months, days_of_twelve, days_of_thirteen}
 use Rattle.calendar.proofs.Spans.{span}
 use Rattle.reckoning.specs.declared.data.Days.{Days}

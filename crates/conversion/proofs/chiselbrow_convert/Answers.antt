@@ -1,6 +1,5 @@
-use mathlib.Core.Path.{◌≡◌, sym, ◌∙◌}
+use mathlib.Core.Path.{sym, ◌∙◌}
 use Rattle.citation.proofs.TenBytes.{put_true, put_false}
-use Rattle.conversion.specs.Conversion.{conversion_refusal}
 use Rattle.conversion.proofs.Ends.{refused, no_room, answered, written}
 use Rattle.conversion.proofs.chiselbrow_convert.Goals as goal
 use Rattle.conversion.proofs.chiselbrow_convert.Goals.{Else-refusal-ne0}

@@ -1,5 +1,5 @@
 use native.Mathlib.Omega.{arith}
-use Rattle.conversion.proofs.Cases.{Convertible, accepted}
+use Rattle.conversion.proofs.Cases.{accepted}
 use Rattle.conversion.proofs.Ends.{raised_bytes}
 use Rattle.conversion.proofs.raised.Goals as goal
 use Rattle.conversion.proofs.raised.Goals.{Start}

@@ -1,6 +1,5 @@
-use mathlib.Core.Path.{◌≡◌, sym, ◌∙◌}
+use mathlib.Core.Path.{sym, ◌∙◌}
 use native.Mathlib.Omega.{arith}
-use Rattle.citation.specs.Record.{kind_of}
 use Rattle.conversion.proofs.Cases.{too_short, another_kind, wrong_length, name_refused}
 use Rattle.conversion.proofs.refuse.Goals as goal
 use Rattle.conversion.proofs.refuse.Goals.{Else-le16-ne2}

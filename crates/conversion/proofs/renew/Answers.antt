@@ -1,8 +1,7 @@
-use mathlib.Core.Path.{◌≡◌, sym, ◌∙◌}
+use mathlib.Core.Path.{sym, ◌∙◌}
 use native.Mathlib.Omega.{arith}
 use borrow.Author.Tests.{eqb-true, eqb-false}
 use Rattle.reckoning.specs.RefusalNumbers.{KIND}
-use Rattle.conversion.specs.Conversion.{conversion_refusal}
 use Rattle.conversion.proofs.Ends.{renewed_in_place, renewed_left, left_with_lem, left_another}
 use Rattle.conversion.proofs.renew.Goals as goal
 use Rattle.conversion.proofs.renew.Goals.{Then-refusal-eq0}

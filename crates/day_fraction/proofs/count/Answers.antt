@@ -2,7 +2,7 @@ use Prim.Native.Nat.{◌+◌, ◌<◌}
 use mathlib.Core.Path.{◌≡◌, sym, subst}
 use native.Mathlib.Omega.{arith}
 use lib.Dec.{T}
-use lib.Ieee.{fits, of_bits}
+use lib.Ieee.{of_bits}
 use Rattle.day_fraction.proofs.Guessing.{guess_of, sum_number, pattern_least, guess_small}
 use Rattle.day_fraction.specs.Settling.{count_of}
 use Rattle.day_fraction.proofs.Counting.{total}

@@ -1,7 +1,7 @@
 use mathlib.Core.Path.{sym, ap, subst, ◌∙◌}
 use native.Mathlib.Omega.{arith}
 use lib.Dec.{T}
-use lib.Ieee.{of_bits, fits, binary64}
+use lib.Ieee.{of_bits}
 use Rattle.day_fraction.specs.declared.Settled.TheVariants.{Count}
 use Rattle.day_fraction.proofs.Ends.{no_parts, from_one, pattern_number, is_fraction_lem, negative, settled_fraction}
 use Rattle.day_fraction.proofs.settle.Goals as goal

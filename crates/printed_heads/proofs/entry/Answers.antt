@@ -2,7 +2,6 @@ use Rattle.std.proofs.Common.{◌+◌, subst, sym}
 use Rattle.calendar.specs.Systems.{guantian, years_elapsed}
 use Rattle.printed_heads.specs.PrintedHeads.{first_year, IsHead}
 use Rattle.printed_heads.proofs.EachEntry.{each_entry}
-use borrow.Author.Rules.{rules}
 use Rattle.printed_heads.proofs.entry.Goals as goal
 
 -- The page is tested here. Which number is wrong, where one is, tests/printed_heads.sh tells.

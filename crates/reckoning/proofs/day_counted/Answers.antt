@@ -1,4 +1,3 @@
-use mathlib.Core.Path.{◌≡◌}
 use native.Mathlib.Omega.{arith}
 use Rattle.calendar.specs.Systems.{years_elapsed}
 use Rattle.calendar.specs.ClosedForms.{register_head}

@@ -1,4 +1,3 @@
-use Prim.Native.Nat.{◌-◌}
 use native.Mathlib.Omega.{arith}
 use Rattle.renewal.proofs.Renewing.{renewing_starts, record_within, less_left, renewing_more, all_renewed, renewal_is}
 use Rattle.renewal.proofs.renew.Goals as goal
@@ -23,6 +22,6 @@ loop-n-preserved c =
 
 pub returns : goal.returns
 returns c = record {
-      value = renewal_is c.loop-n.invariant c.loop-n-test.false;
-      buffer_after = all_renewed c.loop-n.invariant c.loop-n-test.false;
-    }
+  value = renewal_is c.loop-n.invariant c.loop-n-test.false;
+  buffer_after = all_renewed c.loop-n.invariant c.loop-n-test.false;
+}

@@ -1,8 +1,6 @@
-use mathlib.Core.Path.{◌≡◌, subst, sym, ◌∙◌}
-use mathlib.Core.Bool.{true}
+use mathlib.Core.Path.{subst, sym, ◌∙◌}
 use native.Mathlib.Omega.{arith}
-use Rattle.citation.specs.Record.{kind_of}
-use Rattle.citation.specs.JudgeParts.{Whole, is_whole}
+use Rattle.citation.specs.JudgeParts.{Whole}
 use Rattle.citation.proofs.WholeRecord.{whole_record, whole_judged}
 use Rattle.citation.proofs.judge.judge.Goals as goal
 use Rattle.citation.proofs.judge.judge.Goals.{Then-is_whole}

@@ -1,7 +1,5 @@
-use mathlib.Core.Path.{◌≡◌, sym, ◌∙◌}
-use mathlib.Core.Bool.{false}
+use mathlib.Core.Path.{sym, ◌∙◌}
 use native.Mathlib.Omega.{arith}
-use Rattle.reckoning.specs.ComputedRefusals.{outside}
 use Rattle.reckoning.proofs.RefusalCases.{inside_of}
 use Rattle.reckoning.proofs.AnswersFit.{month_fits}
 use Rattle.citation.proofs.JudgementCases.{day_wrong_lem, day_right}

@@ -1,8 +1,7 @@
 use mathlib.Core.Path.{◌≡◌, refl, sym, ◌∙◌}
-use mathlib.Core.Logic.{◌⊎◌, inl, inr, ⊎_elim}
+use mathlib.Core.Logic.{inl, inr, ⊎_elim}
 use native.Mathlib.Omega.{arith}
-use Rattle.citation.specs.Record.{kind_of, system_of, year_field, month_field, leap_field}
-use Rattle.citation.specs.CitationRefusals.{HasMonth}
+use Rattle.citation.specs.Record.{kind_of}
 use Rattle.citation.proofs.JudgementCases.{kind_with_month, kind_one, kind_five, kind_three, kind_four}
 use Rattle.citation.proofs.judge.judge_kind.Goals as goal
 use Rattle.citation.proofs.judge.judge_kind.Goals.{After-month-m, Else-s-eq10}

@@ -1,8 +1,6 @@
-use mathlib.Core.Path.{◌≡◌, sym, ◌∙◌}
-use mathlib.Core.Bool.{false}
+use mathlib.Core.Path.{sym, ◌∙◌}
 use native.Mathlib.Omega.{arith}
-use Rattle.reckoning.specs.ComputedRefusals.{outside}
-use Rattle.reckoning.proofs.AnswersFit.{MonthFits, month_fits}
+use Rattle.reckoning.proofs.AnswersFit.{month_fits}
 use Rattle.citation.proofs.JudgementCases.{no_name, name_past, name_right_after}
 use Rattle.citation.proofs.judge.judge_name.Goals as goal
 use Rattle.citation.proofs.judge.judge_name.Goals.{After-days_to_name-arg-1}

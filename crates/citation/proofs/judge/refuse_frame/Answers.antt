@@ -1,6 +1,5 @@
 use mathlib.Core.Path.{◌≡◌, ap, sym, ◌∙◌}
 use native.Mathlib.Omega.{arith}
-use Rattle.calendar.specs.Inside.{Inside}
 use Rattle.reckoning.specs.ComputedRefusals.{outside}
 use Rattle.reckoning.proofs.RefusalCases.{inside_of, not_inside}
 use Rattle.citation.specs.Record.{kind_of}

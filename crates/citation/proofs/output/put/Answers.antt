@@ -1,7 +1,6 @@
 use Rattle.citation.proofs.TenBytes.{elements, put_with_room, put_without_room}
 use native.Mathlib.Omega.{arith}
-use mathlib.Core.Path.{◌≡◌}
-use lib.ListN.{length, length-set}
+use lib.ListN.{length-set}
 use borrow.Author.Rules.{rules}
 use Rattle.citation.proofs.output.put.Goals as goal
 use Rattle.citation.proofs.output.put.Goals.{Start}

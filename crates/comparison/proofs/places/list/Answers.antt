@@ -1,4 +1,3 @@
-use Prim.Native.Nat.{◌-◌}
 use native.Mathlib.Omega.{arith}
 use Rattle.comparison.proofs.Listing.{listed_none_yet, listed_one_more, listed_no_more, listed_all}
 use Rattle.comparison.proofs.places.list.Goals as goal

@@ -7,7 +7,7 @@ use Rattle.day_fraction.proofs.ComesBack.{fraction_number}
 use Rattle.day_fraction.specs.Fraction.{fraction_of}
 use Rattle.exchange.specs.Systems.{parts_in_day}
 use Rattle.exchange.specs.Row.{row_of}
-use Rattle.exchange.specs.Export.{export_refusal, exported_into}
+use Rattle.exchange.specs.Export.{export_refusal}
 use Rattle.exchange.proofs.Exporting.{no_exchange, no_time, no_room, none, refused, written, whole_parts, units_cut}
 use Rattle.exchange.proofs.export.chiselbrow_export.Goals as goal
 

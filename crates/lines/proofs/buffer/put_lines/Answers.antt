@@ -1,4 +1,3 @@
-use Prim.Native.Nat.{◌-◌}
 use native.Mathlib.Omega.{arith}
 use Rattle.lines.proofs.Turn.{putting_starts, record_within, line_has_room, less_left, putting_more, lines_put}
 use Rattle.lines.proofs.buffer.put_lines.Goals as goal

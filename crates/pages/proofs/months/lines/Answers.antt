@@ -1,4 +1,3 @@
-use Prim.Native.Nat.{◌-◌}
 use native.Mathlib.Omega.{arith}
 use Rattle.text.proofs.Writing.{wrote_no_texts}
 use Rattle.pages.proofs.PageText.{wrote_month_more, wrote_month_lines}

@@ -1,4 +1,3 @@
-use Prim.Native.Nat.{◌-◌}
 use native.Mathlib.Omega.{arith}
 use Rattle.text.proofs.Writing.{wrote_no_texts}
 use Rattle.pages.proofs.StepText.{wrote_step_more, wrote_step_lines}

@@ -1,4 +1,3 @@
-use Prim.Native.Nat.{◌-◌}
 use Rattle.calendar.proofs.LeapMonths.{between_from_first}
 use Rattle.reckoning.proofs.LeapMonthSearch.{from_first, beside}
 use Rattle.reckoning.proofs.leap_months.last_before_leap.Goals as goal

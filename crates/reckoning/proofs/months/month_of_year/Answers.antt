@@ -1,7 +1,5 @@
 use Prim.Native.Nat.{◌+◌}
-use mathlib.Core.Path.{◌≡◌, sym, ap, ◌∙◌}
-use mathlib.Core.Bool.{false}
-use Rattle.reckoning.specs.ComputedRefusals.{outside}
+use mathlib.Core.Path.{sym, ap, ◌∙◌}
 use Rattle.reckoning.specs.Requests.{month_at}
 use Rattle.reckoning.proofs.MonthRequest.{number_wrong, mark_wrong, ordinary_month, leap_month, leap_lacks}
 use Rattle.reckoning.proofs.MonthRequest.{ordinary_fits, ordinary_in_register, next_fits, next_in_register, none_follows, one_follows}

@@ -1,8 +1,5 @@
-use mathlib.Core.Path.{◌≡◌, subst, sym, ◌∙◌}
-use Prim.Native.Nat.{ℕ, ◌+◌}
-use Rattle.calendar.specs.Systems.{years_elapsed}
+use mathlib.Core.Path.{subst, sym, ◌∙◌}
 use Rattle.calendar.specs.ClosedForms.{first_month}
-use Rattle.reckoning.specs.declared.month_spans.MonthSpan.{MonthSpan}
 use Rattle.reckoning.specs.MonthSpans.{month_span}
 use Rattle.reckoning.specs.WordBounds.{InRegister}
 use Rattle.reckoning.proofs.HeadLaws.{head_of, head_after, head_of_next, told_of_next, months_rise, months_listed, months_of}

@@ -1,6 +1,5 @@
-use mathlib.Core.Path.{◌≡◌, subst, sym, ap, ◌∙◌}
+use mathlib.Core.Path.{subst, sym, ap, ◌∙◌}
 use native.Mathlib.Omega.{arith}
-use Rattle.calendar.specs.Systems.{years_elapsed}
 use Rattle.calendar.specs.ClosedForms.{head_of_year}
 use Rattle.reckoning.specs.WordBounds.{YearInRegister}
 use Rattle.reckoning.specs.Requests.{ordinal_day_in}

@@ -1,6 +1,4 @@
-use mathlib.Core.Path.{◌≡◌, sym, ◌∙◌}
-use mathlib.Core.Bool.{false}
-use Rattle.reckoning.specs.ComputedRefusals.{no_such_system}
+use mathlib.Core.Path.{sym, ◌∙◌}
 use Rattle.reckoning.proofs.RefusalCases.{refused_system, refused_year, not_refused}
 use Rattle.reckoning.proofs.refusal.of_year.Goals as goal
 

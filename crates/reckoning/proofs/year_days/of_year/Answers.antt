@@ -1,6 +1,4 @@
-use mathlib.Core.Path.{◌≡◌, ◌∙◌}
-use Prim.Native.Nat.{◌+◌}
-use Rattle.calendar.specs.Systems.{years_elapsed}
+use mathlib.Core.Path.{◌∙◌}
 use Rattle.calendar.specs.ClosedForms.{register_head}
 use Rattle.reckoning.proofs.HeadLaws.{head_of, head_of_next, told_of_next, days_between, days_of_lem}
 use Rattle.reckoning.proofs.year_days.of_year.Goals as goal

@@ -1,7 +1,7 @@
-use mathlib.Core.Path.{◌≡◌, ap, ◌∙◌}
+use mathlib.Core.Path.{ap, ◌∙◌}
 use native.Mathlib.Omega.{arith}
 use Rattle.calendar.specs.Systems.{years_elapsed}
-use Rattle.calendar.specs.ClosedForms.{month_of_day, first_month, head_of_year, register_head}
+use Rattle.calendar.specs.ClosedForms.{month_of_day, first_month}
 use Rattle.printed_heads.proofs.PageAnswers.{found_is_head}
 use Rattle.reckoning.specs.MonthSpans.{month_span}
 use Rattle.reckoning.proofs.HeadLaws.{month_of_head, is_its_months_head, from_epoch, count_day_lem}

@@ -1,5 +1,5 @@
-use mathlib.Core.Path.{◌≡◌, subst, sym, ap, ◌∙◌}
-use Rattle.calendar.specs.Systems.{years_elapsed, register_day}
+use mathlib.Core.Path.{subst, sym, ap, ◌∙◌}
+use Rattle.calendar.specs.Systems.{register_day}
 use Rattle.calendar.specs.ClosedForms.{first_month}
 use Rattle.reckoning.specs.MonthSpans.{month_span}
 use Rattle.reckoning.specs.WordBounds.{InRegister}

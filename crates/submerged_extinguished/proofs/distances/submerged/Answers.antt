@@ -1,5 +1,4 @@
 use Prim.Native.Nat.{◌<◌}
-use mathlib.Core.Path.{◌≡◌}
 use native.Mathlib.Omega.{arith}
 use Rattle.submerged_extinguished.specs.Answers.{exact_remainder, submerged_by}
 use Rattle.submerged_extinguished.proofs.WordFits.{picked_fits, picked_constants, picked_answer}

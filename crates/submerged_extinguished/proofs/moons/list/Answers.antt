@@ -1,6 +1,5 @@
 use mathlib.Core.Path.{ap}
 use lib.ListN.{replicate}
-use Prim.Native.Nat.{◌-◌}
 use native.Mathlib.Omega.{arith}
 use Rattle.submerged_extinguished.proofs.MoonList.{listing_starts, moon_fits, listing_more, listing_all}
 use Rattle.submerged_extinguished.proofs.moons.list.Goals as goal

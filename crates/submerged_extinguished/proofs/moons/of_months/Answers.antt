@@ -1,4 +1,3 @@
-use mathlib.Core.Path.{◌≡◌}
 use native.Mathlib.Omega.{arith}
 use Rattle.calendar.specs.Systems.{count_day}
 use Rattle.calendar.specs.ClosedForms.{month_of_day}

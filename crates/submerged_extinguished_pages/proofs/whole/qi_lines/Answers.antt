@@ -1,4 +1,3 @@
-use Prim.Native.Nat.{◌-◌}
 use native.Mathlib.Omega.{arith}
 use Rattle.text.proofs.Writing.{wrote_no_texts}
 use Rattle.submerged_extinguished_pages.proofs.PageText.{wrote_qi_more, wrote_qi_lines}

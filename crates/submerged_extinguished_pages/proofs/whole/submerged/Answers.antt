@@ -12,9 +12,8 @@ returns-then-refusal-ne0 c =
     (omega arith)
 
 pub returns : goal.returns
-returns c =
-    (
-      wrote_page _ _ _ _ (ap (λ v. v.refusal) c.submerged-refusal.ensures.0) c.if-refusal-ne0.false c.title-at.ensures (omega arith)
-          c.qi_lines.ensures.0,
-      omega arith,
-    )
+returns c = (
+  wrote_page _ _ _ _ (ap (λ v. v.refusal) c.submerged-refusal.ensures.0) c.if-refusal-ne0.false c.title-at.ensures (omega arith)
+      c.qi_lines.ensures.0,
+  omega arith,
+)

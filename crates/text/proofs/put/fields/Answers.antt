@@ -1,4 +1,3 @@
-use Prim.Native.Nat.{◌-◌}
 use native.Mathlib.Omega.{arith}
 use Rattle.text.specs.Piece.{fields}
 use Rattle.text.proofs.Writing.{wrote_none, wrote_more_fields, wrote_all_fields}
