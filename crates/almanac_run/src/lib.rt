@@ -12,7 +12,7 @@ use arguments::ranges::Range;
 use arguments::{number, options, ranges};
 use process::command_line::{word, word_count};
 use process::exit;
-use process::streams::Streams;
+use process::streams::{Streams, zeros};
 use range::{Page, Request};
 use solar_inequality::data::Season;
 use std::env::Env;
@@ -22,15 +22,15 @@ mod range;
 // Argument i as a number. A missing one reads as an empty text, which is none. No argument on Linux is longer than the
 // array.
 fn number_at<R: Env>(rt: &R, i: usize) -> Argument {
-    let mut text = [0u8; 131072];
+    let mut text = zeros::<131072>();
     let n = word(rt, i, &mut text);
     number::read(&text[..n])
 }
 
 // The numbers from argument i to argument j.
 fn range_at<R: Env>(rt: &R, i: usize, j: usize) -> Range {
-    let mut first = [0u8; 131072];
-    let mut last = [0u8; 131072];
+    let mut first = zeros::<131072>();
+    let mut last = zeros::<131072>();
     let n = word(rt, i, &mut first);
     let m = word(rt, j, &mut last);
     ranges::read(&first[..n], &last[..m])
@@ -93,7 +93,7 @@ fn comparisons<R: Env>(rt: &R, streams: &mut Streams, count: usize) -> u32
 fn sun_lines<R: Env>(rt: &R, streams: &mut Streams, count: usize) -> u32
     ensures { Ended result }
 {
-    let mut season = [0u8; 4096];
+    let mut season = zeros::<4096>();
     let n = word(rt, 2, &mut season);
     if &season[..n] == b"winter".as_slice() {
         return write_range(rt, streams, Request::Sun(Season::Winter), 3, count);
@@ -163,7 +163,7 @@ pub fn almanac_run<R: Env>(rt: &R, streams: &mut Streams, version: &[u8]) -> u32
     ensures { Ended result }
 {
     let count = word_count(rt);
-    let mut verb = [0u8; 4096];
+    let mut verb = zeros::<4096>();
     let n = word(rt, 1, &mut verb);
     if count == 2 {
         return reply(streams, options::read(&verb[..n]), version);

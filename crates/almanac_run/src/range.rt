@@ -6,7 +6,7 @@ ghost use Rattle.text.specs.Wrote.{Wrote};
 ghost use Rattle.almanac_run.specs.Pages.{system_page, requested_page, FilledWith};
 
 use calendar::data::RegisterDay;
-use process::streams::Streams;
+use process::streams::{Streams, zeros};
 use process::{exit, streams};
 use solar_inequality::data::Season;
 
@@ -125,6 +125,6 @@ fn write_pages(
 pub(crate) fn pages(streams: &mut Streams, request: Request, first: u32, count: u64) -> u32
     ensures { AnsweredOrFailed result }
 {
-    let mut buffer = [0u8; 65536];
+    let mut buffer = zeros::<65536>();
     write_pages(streams, &mut buffer, request, first, count)
 }

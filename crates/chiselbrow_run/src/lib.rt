@@ -8,7 +8,7 @@ ghost use Rattle.chiselbrow_run.specs.Buffers.{Buffers};
 ghost use Rattle.chiselbrow_run.specs.Stepped.{Stepped, ReadAndAnswered};
 
 use process::command_line::Asked;
-use process::streams::Streams;
+use process::streams::{Streams, zeros};
 use process::{command_line, exit, streams};
 use std::env::Env;
 use turn::answer;
@@ -110,8 +110,8 @@ fn answer_input(streams: &mut Streams, input: &mut [u8], out: &mut [u8]) -> u32
 fn answer_all(streams: &mut Streams) -> u32
     ensures { AnsweredOrFailed result }
 {
-    let mut input = [0u8; 32768];
-    let mut out = [0u8; 524352];
+    let mut input = zeros::<32768>();
+    let mut out = zeros::<524352>();
     answer_input(streams, &mut input, &mut out)
 }
 

@@ -13,6 +13,13 @@ pub struct Streams {
     errno: i32,
 }
 
+// Room for what is read or written. What is known of it is its length.
+pub fn zeros<const N: usize>() -> [u8; N]
+    ensures { length result ≡ N }
+{
+    [0; N]
+}
+
 // What a read gave: so many bytes, none at the end of the input; or it failed, and errno tells why.
 #[derive(Drop)]
 pub struct Got {

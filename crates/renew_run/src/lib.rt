@@ -8,7 +8,7 @@ ghost use Rattle.renew_run.specs.Stepped.{Stepped, ReadAndRenewed};
 
 use framing::keep;
 use process::command_line::Asked;
-use process::streams::Streams;
+use process::streams::{Streams, zeros};
 use process::{command_line, exit, streams};
 use std::env::Env;
 use telling::tell_refused;
@@ -187,7 +187,7 @@ fn renew_input(streams: &mut Streams, buffer: &mut [u8]) -> u32
 fn renew_all(streams: &mut Streams) -> u32
     ensures { AnsweredOrFailed result }
 {
-    let mut buffer = [0u8; 65536];
+    let mut buffer = zeros::<65536>();
     renew_input(streams, &mut buffer)
 }
 
