@@ -1,4 +1,4 @@
-# What is made for use goes to build/. The prover keeps its own work in target/, which `rt ci` removes.
+# What is made for use goes to build/. The prover keeps its own work in out/ of each crate.
 
 PREFIX = /usr/local
 DESTDIR =
@@ -7,7 +7,7 @@ CC = gcc
 CFLAGS = -std=c11 -O2 -Wall -Wextra -Wpedantic
 RUSTC = rustc
 
-# The version stands in the header alone.
+# The version, from the header. The programs have it from crates/process, and tests/arguments.sh holds them to the header.
 version := $(shell sed -n 's/.*define CHISELBROW_VERSION "\(.*\)"/\1/p' include/chiselbrow.h)
 # The names under which the library's manual page is to be found.
 functions := $(shell sed -n '/SH NAME/,/SH SYNOPSIS/p' man/chiselbrow.3 | grep -o 'chiselbrow_[a-z_]*')
@@ -17,8 +17,6 @@ shared = build/libchiselbrow.so.$(version)
 soname = libchiselbrow.so.$(firstword $(subst ., ,$(version)))
 programs = build/chiselbrow build/chiselbrow-renew build/almanac
 hosts = build/store build/rows
-# The toolchain's own C code, beside rt: what the programs call of the system.
-system := $(dir $(shell readlink -f "$$(command -v rt)"))../lib/libos_c.a
 test_tools = build/independent build/store_check build/convert_check build/exchange_check build/exchange_check_fast \
              build/null_check build/builders build/incident build/feed build/faults.so
 bench_tools = build/bench build/bench_exchange build/bench_heads build/bench_sun build/c_program build/c_renew \
@@ -29,18 +27,17 @@ tests = tests/mixups.sh tests/program.sh tests/every_day.sh tests/convert.sh tes
         tests/every_pentad.sh tests/faults.sh tests/cases.sh tests/sun.sh tests/descriptors.sh tests/arguments.sh \
         tests/manual.sh tests/install.sh tests/shared.sh tests/shared.py tests/header.sh tests/host.sh tests/rows.sh \
         tests/printed_heads.sh build/null_check build/builders build/incident
-crates := crates.txt $(shell find crates -name must-fail -prune -o -type f -print)
+crates := crates.txt $(shell find crates \( -name must-fail -o -name out \) -prune -o -type f -print)
 
-# Two runs of rt at a time would share target/.
+# A run of rt takes all cores, and a second one would only wait for the same crates.
 .NOTPARALLEL:
 # So that nothing is printed after the gate's last line.
 MAKEFLAGS += --no-print-directory
 
 .PHONY: all test-tools test bench sky run install clean
 
-# The programs, the library as an archive and shared, and the example hosts. What they stand on comes first: it is proved
-# on all cores at once, and an archive's own crate by itself.
-all: build/proved $(programs) $(library) $(shared) $(hosts)
+# The programs, the library as an archive and shared, and the example hosts.
+all: $(programs) $(library) $(shared) $(hosts)
 
 # What only the tests need.
 test-tools: $(test_tools)
@@ -87,26 +84,19 @@ install: all
 
 # Everything that was made.
 clean:
-	rm -rf build target
+	rm -rf build crates/*/out
 
 build:
 	mkdir -p build
 
-# What the runs of the programs stand on.
-build/proved: $(crates) | build
-	@echo "proving the libraries (what the prover says: build/proved.log)"
-	@rt check lines conversion exchange pages comparison_pages submerged_extinguished_pages solar_inequality_lines \
-	    arguments process < /dev/null > build/proved.log 2>&1 || { cat build/proved.log >&2; exit 1; }
-	@touch $@
-
 # A crate proved with all that it stands on, and archived for C. What the prover says is kept, and shown if it refuses.
 build/lib%.a: $(crates) | build
 	@echo "proving $* (what the prover says: build/$*.log)"
-	@rt staticlib $* < /dev/null > build/$*.log 2>&1 || { cat build/$*.log >&2; exit 1; }
-	@cp target/staticlib/lib$*.a $@
+	@cd crates/$* && rt lib < /dev/null > ../../build/$*.log 2>&1 || { cat ../../build/$*.log >&2; exit 1; }
+	@cp crates/$*/out/lib$*.a $@
 
 # The storing step, the conversion and the exchange, each an object.
-objects = citation conversion exchange
+objects = citation_c conversion_c exchange_c
 $(library): $(objects:%=build/lib%.a)
 	cd build && for object in $(objects); do ar x lib$$object.a || exit 1; done && ar rcs $(notdir $@) $(objects:%=%.o)
 
@@ -117,12 +107,15 @@ $(shared): $(library) chiselbrow.map include/chiselbrow.h
 	ln -sf $(notdir $@) build/$(soname)
 	ln -sf $(soname) build/libchiselbrow.so
 
-build/chiselbrow: build/libchiselbrow_run.a
-build/chiselbrow-renew: build/librenew_run.a
-build/almanac: build/libalmanac_run.a
-
-$(programs): build/%: cli/%.c include/chiselbrow.h
-	$(CC) $(CFLAGS) -Iinclude -o $@ $(filter %.c,$^) $(filter %.a,$^) $(system)
+# A program proved with all that it stands on, compiled and linked. rt runs it once it is linked, so it is asked for no
+# more than its version.
+build/chiselbrow: crate = chiselbrow
+build/chiselbrow-renew: crate = renew
+build/almanac: crate = almanac
+$(programs): $(crates) | build
+	@echo "proving $(@F) (what the prover says: $@.log)"
+	@cd crates/$(crate) && rt run -- --version < /dev/null > ../../$@.log 2>&1 || { cat ../../$@.log >&2; exit 1; }
+	@cp crates/$(crate)/out/$(crate) $@
 
 $(hosts): build/%: examples/%.c include/chiselbrow.h $(library)
 	$(CC) $(CFLAGS) -Iinclude -o $@ $< $(library)
@@ -168,11 +161,12 @@ build/bench_heads build/bench_sun: build/bench_%: bench/bench_%.c bench/c_%.c $(
 # and proved as well. Its function is renamed, so that both can be linked.
 build/from_page.a: bench/from_page.patch $(crates) | build
 	@echo "proving the storing step with heads from the page (what the prover says: build/from_page.log)"
-	@rm -rf build/from_page && mkdir build/from_page && cp -R crates crates.txt build/from_page
+	@rm -rf build/from_page && mkdir build/from_page
+	@tar -c --exclude=out crates crates.txt | tar -x -C build/from_page
 	@cd build/from_page && patch -sp1 < ../../bench/from_page.patch
-	@cd build/from_page && rt staticlib citation < /dev/null > ../from_page.log 2>&1 || \
-	    { cat ../from_page.log >&2; exit 1; }
-	@objcopy --redefine-sym chiselbrow_store=store_from_page build/from_page/target/staticlib/libcitation.a $@
+	@cd build/from_page/crates/citation_c && rt lib < /dev/null > ../../../from_page.log 2>&1 || \
+	    { cat ../../../from_page.log >&2; exit 1; }
+	@objcopy --redefine-sym chiselbrow_store=store_from_page build/from_page/crates/citation_c/out/libcitation_c.a $@
 	@rm -r build/from_page
 
 build/c_program: bench/c_program.c bench/c_store.c $(wildcard bench/*.h) | build

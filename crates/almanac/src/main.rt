@@ -1,7 +1,11 @@
-// The program almanac for the gate, which runs it with the words of the file args beside src/. The installed one is
-// cli/almanac.c.
+// The program almanac. The gate runs it with the words of the file args beside src/.
 #![tactic(auto)]
 
-fn main() {
-    almanac_run::almanac_run(b"");
+use almanac_run::almanac_run;
+use process::{exit, streams};
+use std::process::ExitCode;
+
+fn main(rt: HostRuntime) -> ExitCode {
+    let mut streams = streams::open(rt.stdin(), rt.stdout(), rt.stderr());
+    exit::code(almanac_run(&rt, &mut streams, process::VERSION))
 }

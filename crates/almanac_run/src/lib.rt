@@ -10,33 +10,37 @@ use arguments::number::Argument;
 use arguments::options::Wish;
 use arguments::ranges::Range;
 use arguments::{number, options, ranges};
+use process::command_line::{word, word_count};
 use process::exit;
+use process::streams::{Streams, zeros};
 use range::{Page, Request};
 use solar_inequality::data::Season;
+use std::env::Env;
 
 mod range;
 
 // Argument i as a number. A missing one reads as an empty text, which is none. No argument on Linux is longer than the
 // array.
-fn number_at(i: usize) -> Argument {
-    let mut text = [0u8; 131072];
-    let n = os::arg(i, &mut text);
+fn number_at<R: Env>(rt: &R, i: usize) -> Argument {
+    let mut text = zeros::<131072>();
+    let n = word(rt, i, &mut text);
     number::read(&text[..n])
 }
 
 // The numbers from argument i to argument j.
-fn range_at(i: usize, j: usize) -> Range {
-    let mut first = [0u8; 131072];
-    let mut last = [0u8; 131072];
-    let n = os::arg(i, &mut first);
-    let m = os::arg(j, &mut last);
+fn range_at<R: Env>(rt: &R, i: usize, j: usize) -> Range {
+    let mut first = zeros::<131072>();
+    let mut last = zeros::<131072>();
+    let n = word(rt, i, &mut first);
+    let m = word(rt, j, &mut last);
     ranges::read(&first[..n], &last[..m])
 }
 
-fn misuse() -> u32
+fn misuse(streams: &mut Streams) -> u32
     ensures { result ≡ misused }
 {
     exit::misuse(
+        streams,
         b"usage: almanac year SYSTEM YEAR [LAST] | almanac pentads SYSTEM YEAR [LAST] | almanac pentad SYSTEM DAY [LAST] | almanac submerged SYSTEM YEAR [LAST] | almanac extinguished SYSTEM YEAR [LAST] | almanac compare FIRST SECOND YEAR [LAST] | almanac sun winter|summer FIRST [LAST] (see almanac --help)\n",
     )
 }
@@ -44,57 +48,63 @@ fn misuse() -> u32
 // Of `count` words on the command line the first is the program's name, and the second what it is asked. Writes what is
 // asked of each number from argument i to the last argument, which is argument i again where LAST is left out. All
 // arguments are read before anything is written.
-fn write_range(request: Request, i: usize, count: usize) -> u32
+fn write_range<R: Env>(
+    rt: &R,
+    streams: &mut Streams,
+    request: Request,
+    i: usize,
+    count: usize,
+) -> u32
     ensures { Ended result }
 {
     if count <= i {
-        return misuse();
+        return misuse(streams);
     }
     if 2 < count - i {
-        return misuse();
+        return misuse(streams);
     }
-    let Range::From(first, numbers) = range_at(i, count - 1) else {
-        return misuse();
+    let Range::From(first, numbers) = range_at(rt, i, count - 1) else {
+        return misuse(streams);
     };
-    range::pages(request, first, numbers)
+    range::pages(streams, request, first, numbers)
 }
 
-fn system_pages(page: Page, count: usize) -> u32
+fn system_pages<R: Env>(rt: &R, streams: &mut Streams, page: Page, count: usize) -> u32
     ensures { Ended result }
 {
-    let Argument::Number(system) = number_at(2) else {
-        return misuse();
+    let Argument::Number(system) = number_at(rt, 2) else {
+        return misuse(streams);
     };
-    write_range(Request::BySystem(page, system), 3, count)
+    write_range(rt, streams, Request::BySystem(page, system), 3, count)
 }
 
-fn comparisons(count: usize) -> u32
+fn comparisons<R: Env>(rt: &R, streams: &mut Streams, count: usize) -> u32
     ensures { Ended result }
 {
-    let Argument::Number(first) = number_at(2) else {
-        return misuse();
+    let Argument::Number(first) = number_at(rt, 2) else {
+        return misuse(streams);
     };
-    let Argument::Number(second) = number_at(3) else {
-        return misuse();
+    let Argument::Number(second) = number_at(rt, 3) else {
+        return misuse(streams);
     };
-    write_range(Request::Compare(first, second), 4, count)
+    write_range(rt, streams, Request::Compare(first, second), 4, count)
 }
 
-fn sun_lines(count: usize) -> u32
+fn sun_lines<R: Env>(rt: &R, streams: &mut Streams, count: usize) -> u32
     ensures { Ended result }
 {
-    let mut season = io::buffer();
-    let n = os::arg(2, &mut season);
-    if check::same(&season[..n], b"winter") {
-        return write_range(Request::Sun(Season::Winter), 3, count);
+    let mut season = zeros::<4096>();
+    let n = word(rt, 2, &mut season);
+    if &season[..n] == b"winter".as_slice() {
+        return write_range(rt, streams, Request::Sun(Season::Winter), 3, count);
     }
-    if check::same(&season[..n], b"summer") {
-        return write_range(Request::Sun(Season::Summer), 3, count);
+    if &season[..n] == b"summer".as_slice() {
+        return write_range(rt, streams, Request::Sun(Season::Summer), 3, count);
     }
-    misuse()
+    misuse(streams)
 }
 
-fn help() -> u32
+fn help(streams: &mut Streams) -> u32
     ensures { AnsweredOrFailed result }
 {
     let text = b"almanac year SYSTEM YEAR [LAST]\n\
@@ -129,51 +139,55 @@ fn help() -> u32
         solstice: 1721414 to 2817144, and for Jingchu 1721416 to 2817156; for sun, if it\n\
         is above 182.\n\
         The manual page almanac(1) tells the lines and the exit status.\n";
-    exit::reply(text, b"almanac: standard output")
+    exit::reply(streams, text, b"almanac: standard output")
 }
 
 // Does what a lone argument asks.
-fn reply(wish: Wish, version: &[u8]) -> u32
+fn reply(streams: &mut Streams, wish: Wish, version: &[u8]) -> u32
     ensures { Ended result }
 {
     match wish {
-        Wish::Help => help(),
-        Wish::Version => exit::reply_version(b"almanac", version, b"almanac: standard output"),
-        Wish::Other => misuse(),
+        Wish::Help => help(streams),
+        Wish::Version => exit::reply_version(
+            streams,
+            b"almanac",
+            version,
+            b"almanac: standard output",
+        ),
+        Wish::Other => misuse(streams),
     }
 }
 
 // Does what the arguments ask, and gives the exit status.
-#[unsafe(no_mangle)]
-pub extern "C" fn almanac_run(version: &[u8]) -> u32
+pub fn almanac_run<R: Env>(rt: &R, streams: &mut Streams, version: &[u8]) -> u32
     ensures { Ended result }
 {
-    let count = os::arg_count();
-    let mut verb = io::buffer();
-    let n = os::arg(1, &mut verb);
+    let count = word_count(rt);
+    let mut verb = zeros::<4096>();
+    let n = word(rt, 1, &mut verb);
     if count == 2 {
-        return reply(options::read(&verb[..n]), version);
+        return reply(streams, options::read(&verb[..n]), version);
     }
-    if check::same(&verb[..n], b"year") {
-        return system_pages(Page::Year, count);
+    if &verb[..n] == b"year".as_slice() {
+        return system_pages(rt, streams, Page::Year, count);
     }
-    if check::same(&verb[..n], b"pentads") {
-        return system_pages(Page::Pentads, count);
+    if &verb[..n] == b"pentads".as_slice() {
+        return system_pages(rt, streams, Page::Pentads, count);
     }
-    if check::same(&verb[..n], b"pentad") {
-        return system_pages(Page::Pentad, count);
+    if &verb[..n] == b"pentad".as_slice() {
+        return system_pages(rt, streams, Page::Pentad, count);
     }
-    if check::same(&verb[..n], b"submerged") {
-        return system_pages(Page::Submerged, count);
+    if &verb[..n] == b"submerged".as_slice() {
+        return system_pages(rt, streams, Page::Submerged, count);
     }
-    if check::same(&verb[..n], b"extinguished") {
-        return system_pages(Page::Extinguished, count);
+    if &verb[..n] == b"extinguished".as_slice() {
+        return system_pages(rt, streams, Page::Extinguished, count);
     }
-    if check::same(&verb[..n], b"compare") {
-        return comparisons(count);
+    if &verb[..n] == b"compare".as_slice() {
+        return comparisons(rt, streams, count);
     }
-    if check::same(&verb[..n], b"sun") {
-        return sun_lines(count);
+    if &verb[..n] == b"sun".as_slice() {
+        return sun_lines(rt, streams, count);
     }
-    misuse()
+    misuse(streams)
 }

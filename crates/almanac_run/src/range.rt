@@ -6,6 +6,7 @@ ghost use Rattle.text.specs.Wrote.{Wrote};
 ghost use Rattle.almanac_run.specs.Pages.{system_page, requested_page, FilledWith};
 
 use calendar::data::RegisterDay;
+use process::streams::{Streams, zeros};
 use process::{exit, streams};
 use solar_inequality::data::Season;
 
@@ -96,7 +97,13 @@ fn fill(out: &mut [u8], request: Request, first: u32, count: u64) -> Filled
 }
 
 // Buffer after buffer, and the exit status. A write that fails ends it.
-fn write_pages(out: &mut [u8], request: Request, first: u32, count: u64) -> u32
+fn write_pages(
+    streams: &mut Streams,
+    out: &mut [u8],
+    request: Request,
+    first: u32,
+    count: u64,
+) -> u32
     requires { 8192 ≤ length out.old }
     ensures { AnsweredOrFailed result }
 {
@@ -105,8 +112,8 @@ fn write_pages(out: &mut [u8], request: Request, first: u32, count: u64) -> u32
     while 0 < left {
         let filled = fill(out, request, next, left);
         let end = filled.end;
-        if !streams::write(&out[..end]) {
-            return exit::fail(b"almanac: standard output");
+        if !streams::write(streams, &out[..end]) {
+            return exit::fail(streams, b"almanac: standard output");
         }
         next = filled.next;
         left -= filled.pages;
@@ -115,9 +122,9 @@ fn write_pages(out: &mut [u8], request: Request, first: u32, count: u64) -> u32
 }
 
 // The pages of so many numbers from the first on.
-pub(crate) fn pages(request: Request, first: u32, count: u64) -> u32
+pub(crate) fn pages(streams: &mut Streams, request: Request, first: u32, count: u64) -> u32
     ensures { AnsweredOrFailed result }
 {
-    let mut buffer = io::large_buffer();
-    write_pages(&mut buffer, request, first, count)
+    let mut buffer = zeros::<65536>();
+    write_pages(streams, &mut buffer, request, first, count)
 }

@@ -125,4 +125,4 @@ module _ (text : List ℕ) (n : ℕ) (e : argument_of text ≡ Argument.Number n
 pub number_digits : (text : List ℕ) → is_number text ≡ true → all_digits text ≡ true
 unfolding is_number
 number_digits [] e = absurd (true≢false (sym e))
-number_digits (byte ∷ text) e = e
+number_digits (_ ∷ _) e = e

@@ -13,10 +13,10 @@ pub enum Wish {
 pub fn read(text: &[u8]) -> Wish
     ensures { Reads text.now result }
 {
-    if check::same(text, b"--help") {
+    if text == b"--help".as_slice() {
         return Wish::Help;
     }
-    if check::same(text, b"--version") {
+    if text == b"--version".as_slice() {
         return Wish::Version;
     }
     Wish::Other

@@ -1,6 +1,11 @@
-// The program chiselbrow for the gate, which runs it on the file stdin beside src/. The installed one is cli/chiselbrow.c.
+// The program chiselbrow. The gate runs it on the file stdin beside src/.
 #![tactic(auto)]
 
-fn main() {
-    chiselbrow_run::chiselbrow_run(b"");
+use chiselbrow_run::chiselbrow_run;
+use process::{exit, streams};
+use std::process::ExitCode;
+
+fn main(rt: HostRuntime) -> ExitCode {
+    let mut streams = streams::open(rt.stdin(), rt.stdout(), rt.stderr());
+    exit::code(chiselbrow_run(&rt, &mut streams, process::VERSION))
 }

@@ -8,7 +8,9 @@ ghost use Rattle.chiselbrow_run.specs.Buffers.{Buffers};
 ghost use Rattle.chiselbrow_run.specs.Stepped.{Stepped, ReadAndAnswered};
 
 use process::command_line::Asked;
+use process::streams::{Streams, zeros};
 use process::{command_line, exit, streams};
+use std::env::Env;
 use turn::answer;
 
 mod turn;
@@ -23,10 +25,10 @@ struct Step {
     read: usize,
 }
 
-fn failed_step(what: &[u8]) -> Step
+fn failed_step(streams: &mut Streams, what: &[u8]) -> Step
     ensures { result ≡ record { failed = true; more = false; left = 0; read = 0 } }
 {
-    exit::fail(what);
+    exit::fail(streams, what);
     Step {
         failed: true,
         more: false,
@@ -36,14 +38,20 @@ fn failed_step(what: &[u8]) -> Step
 }
 
 // Answers the records among the first `filled` bytes, and writes their lines.
-fn write_answer(input: &mut [u8], filled: usize, ended: bool, out: &mut [u8]) -> Step
+fn write_answer(
+    streams: &mut Streams,
+    input: &mut [u8],
+    filled: usize,
+    ended: bool,
+    out: &mut [u8],
+) -> Step
     requires { (filled ≤ length input.old) × Buffers input.old out.old }
     ensures { Stepped ended (take filled input.old) input.new result }
 {
     let t = answer(&mut input[..filled], ended, out);
     let written = t.written;
-    if !streams::write(&out[..written]) {
-        return failed_step(b"chiselbrow: standard output");
+    if !streams::write(streams, &out[..written]) {
+        return failed_step(streams, b"chiselbrow: standard output");
     }
     Step {
         failed: false,
@@ -54,21 +62,22 @@ fn write_answer(input: &mut [u8], filled: usize, ended: bool, out: &mut [u8]) ->
 }
 
 // Reads once after the bytes that were kept, and answers.
-fn read_and_answer(input: &mut [u8], kept: usize, out: &mut [u8]) -> Step
+fn read_and_answer(streams: &mut Streams, input: &mut [u8], kept: usize, out: &mut [u8]) -> Step
     requires { (kept < 64) × Buffers input.old out.old }
     ensures { ReadAndAnswered (take kept input.old) input.new result }
 {
-    let got = streams::read(&mut input[kept..]);
+    let got = streams::read(streams, &mut input[kept..]);
     if got.failed {
-        return failed_step(b"chiselbrow: standard input");
+        return failed_step(streams, b"chiselbrow: standard input");
     }
-    write_answer(input, kept + got.count, got.count == 0, out)
+    write_answer(streams, input, kept + got.count, got.count == 0, out)
 }
 
-fn stopped(left: usize, offset: u64) -> u32
+fn stopped(streams: &mut Streams, left: usize, offset: u64) -> u32
     ensures { (result ≡ (if nat_eq left 0 then answered else failed)) × AnsweredOrFailed result }
 {
     exit::stopped(
+        streams,
         b"chiselbrow: standard input: no record at byte ",
         left,
         offset,
@@ -76,7 +85,7 @@ fn stopped(left: usize, offset: u64) -> u32
 }
 
 // Step after step. A proved loop has to end, so it counts its turns.
-fn answer_input(input: &mut [u8], out: &mut [u8]) -> u32
+fn answer_input(streams: &mut Streams, input: &mut [u8], out: &mut [u8]) -> u32
     requires { Buffers input.old out.old }
     ensures { AnsweredOrFailed result }
 {
@@ -84,13 +93,13 @@ fn answer_input(input: &mut [u8], out: &mut [u8]) -> u32
     let mut offset = 0;
     let mut turns = u64::MAX;
     while 0 < turns {
-        let s = read_and_answer(input, kept, out);
+        let s = read_and_answer(streams, input, kept, out);
         if s.failed {
             return exit::FAILED;
         }
         offset = std::num::wrapping_add_u64(offset, s.read as u64);
         if !s.more {
-            return stopped(s.left, offset);
+            return stopped(streams, s.left, offset);
         }
         kept = s.left;
         turns -= 1;
@@ -98,17 +107,16 @@ fn answer_input(input: &mut [u8], out: &mut [u8]) -> u32
     exit::FAILED
 }
 
-fn answer_all() -> u32
+fn answer_all(streams: &mut Streams) -> u32
     ensures { AnsweredOrFailed result }
 {
-    let mut input = [0u8; 32768];
-    let mut out = [0u8; 524352];
-    answer_input(&mut input, &mut out)
+    let mut input = zeros::<32768>();
+    let mut out = zeros::<524352>();
+    answer_input(streams, &mut input, &mut out)
 }
 
 // Does what the arguments ask, and gives the exit status.
-#[unsafe(no_mangle)]
-pub extern "C" fn chiselbrow_run(version: &[u8]) -> u32
+pub fn chiselbrow_run<R: Env>(rt: &R, streams: &mut Streams, version: &[u8]) -> u32
     ensures { Ended result }
 {
     let help = b"chiselbrow [--help | --version] < records\n\
@@ -121,6 +129,8 @@ pub extern "C" fn chiselbrow_run(version: &[u8]) -> u32
         and the exit status.\n";
     let usage = b"usage: chiselbrow [--help | --version] < records\n";
     let asked = command_line::reply(
+        rt,
+        streams,
         b"chiselbrow",
         version,
         help,
@@ -128,7 +138,7 @@ pub extern "C" fn chiselbrow_run(version: &[u8]) -> u32
         b"chiselbrow: standard output",
     );
     let Asked::Done(status) = asked else {
-        return answer_all();
+        return answer_all(streams);
     };
     status
 }

@@ -24,8 +24,7 @@ fn refused(refusal: u8, told: u8) -> u64
 // Stores one citation. The answer is the register day that it names, plus 2^32 times the refusal number and 2^40 times
 // the month told with it; the output's first ten bytes become its stored record, and the rest is left. Refused, the day
 // is 0 and no byte changes.
-#[unsafe(no_mangle)]
-pub extern "C" fn chiselbrow_store(input: &[u8], output: &mut [u8]) -> u64
+pub fn chiselbrow_store(input: &[u8], output: &mut [u8]) -> u64
     ensures value { result ≡ answer_of input.now (length output.old) }
     ensures output_after { output.new ≡ stored_into input.now output.old }
 {

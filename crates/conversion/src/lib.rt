@@ -104,8 +104,7 @@ pub fn renew(cited: &mut [u8]) -> u8
 
 // Converts one record. The output's first ten bytes become the record of kind 5, and the rest is left. The answer is
 // 2^32 times the refusal number; refused, no byte changes.
-#[unsafe(no_mangle)]
-pub extern "C" fn chiselbrow_convert(input: &[u8], output: &mut [u8]) -> u64
+pub fn chiselbrow_convert(input: &[u8], output: &mut [u8]) -> u64
     ensures value { result ≡ conversion_answer input.now (length output.old) }
     ensures output_after { output.new ≡ converted_into input.now output.old }
 {

@@ -115,8 +115,7 @@ fn tag(time: Time) -> u8
 
 // Imports a row. The answer is its register day, plus 2^40 times the count of parts that its time settles to, plus 2^56
 // times its tag; refused, it is 2^32 times the refusal number.
-#[unsafe(no_mangle)]
-pub extern "C" fn chiselbrow_import(system: u64, row: &[u8]) -> u64
+pub fn chiselbrow_import(system: u64, row: &[u8]) -> u64
     ensures { result ≡ import_answer (import_of system row.now) }
 {
     let imported = import(system, row);

@@ -4,3 +4,6 @@
 pub mod command_line;
 pub mod exit;
 pub mod streams;
+
+// The version of the programs, which include/chiselbrow.h tells C.
+pub const VERSION: &[u8] = b"2.0.5";

@@ -1,7 +1,11 @@
-// The program chiselbrow-renew for the gate, which runs it on the file stdin beside src/. The installed one is
-// cli/chiselbrow-renew.c.
+// The program chiselbrow-renew. The gate runs it on the file stdin beside src/.
 #![tactic(auto)]
 
-fn main() {
-    renew_run::renew_run(b"");
+use process::{exit, streams};
+use renew_run::renew_run;
+use std::process::ExitCode;
+
+fn main(rt: HostRuntime) -> ExitCode {
+    let mut streams = streams::open(rt.stdin(), rt.stdout(), rt.stderr());
+    exit::code(renew_run(&rt, &mut streams, process::VERSION))
 }

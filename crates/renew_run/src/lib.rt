@@ -8,7 +8,9 @@ ghost use Rattle.renew_run.specs.Stepped.{Stepped, ReadAndRenewed};
 
 use framing::keep;
 use process::command_line::Asked;
+use process::streams::{Streams, zeros};
 use process::{command_line, exit, streams};
+use std::env::Env;
 use telling::tell_refused;
 use turn::renew;
 
@@ -27,16 +29,16 @@ struct Step {
     refused: bool,
 }
 
-fn input_failed() -> u32
+fn input_failed(streams: &mut Streams) -> u32
     ensures { result ≡ failed }
 {
-    exit::fail(b"chiselbrow-renew: standard input")
+    exit::fail(streams, b"chiselbrow-renew: standard input")
 }
 
-fn output_failed() -> u32
+fn output_failed(streams: &mut Streams) -> u32
     ensures { result ≡ failed }
 {
-    exit::fail(b"chiselbrow-renew: standard output")
+    exit::fail(streams, b"chiselbrow-renew: standard output")
 }
 
 fn failed_step() -> Step
@@ -53,21 +55,21 @@ fn failed_step() -> Step
 }
 
 // Tells the records that were refused, where one was.
-fn tell_if(refused: bool, renewed: &[u8], offset: u64) {
+fn tell_if(streams: &mut Streams, refused: bool, renewed: &[u8], offset: u64) {
     if refused {
-        tell_refused(renewed, offset);
+        tell_refused(streams, renewed, offset);
     }
 }
 
 // Renews the records among these bytes, writes them, and moves what is left to the front.
-fn renew_and_write(bytes: &mut [u8], ended: bool, offset: u64) -> Step
+fn renew_and_write(streams: &mut Streams, bytes: &mut [u8], ended: bool, offset: u64) -> Step
     ensures { Stepped ended bytes.old bytes.new result }
 {
     let t = renew(bytes, ended);
-    tell_if(t.refused, bytes, offset);
+    tell_if(streams, t.refused, bytes, offset);
     let written = t.written;
-    if !streams::write(&bytes[..written]) {
-        output_failed();
+    if !streams::write(streams, &bytes[..written]) {
+        output_failed(streams);
         return failed_step();
     }
     let read = t.read;
@@ -83,35 +85,35 @@ fn renew_and_write(bytes: &mut [u8], ended: bool, offset: u64) -> Step
 }
 
 // Reads once after the bytes that were kept, and renews.
-fn read_and_renew(buffer: &mut [u8], kept: usize, offset: u64) -> Step
+fn read_and_renew(streams: &mut Streams, buffer: &mut [u8], kept: usize, offset: u64) -> Step
     requires { (kept < 64) × (64 ≤ length buffer.old) }
     ensures { ReadAndRenewed (take kept buffer.old) buffer.new result }
 {
-    let got = streams::read(&mut buffer[kept..]);
+    let got = streams::read(streams, &mut buffer[kept..]);
     if got.failed {
-        input_failed();
+        input_failed(streams);
         return failed_step();
     }
     let filled = kept + got.count;
-    renew_and_write(&mut buffer[..filled], got.count == 0, offset)
+    renew_and_write(streams, &mut buffer[..filled], got.count == 0, offset)
 }
 
 // Writes all further input as it is. A proved loop has to end, so it counts its turns.
-fn copy(buffer: &mut [u8]) -> u32
+fn copy(streams: &mut Streams, buffer: &mut [u8]) -> u32
     ensures { result ≡ failed }
 {
     let mut turns = u64::MAX;
     while 0 < turns {
-        let got = streams::read(buffer);
+        let got = streams::read(streams, buffer);
         let count = got.count;
         if got.failed {
-            return input_failed();
+            return input_failed(streams);
         }
         if count == 0 {
             return exit::FAILED;
         }
-        if !streams::write(&buffer[..count]) {
-            return output_failed();
+        if !streams::write(streams, &buffer[..count]) {
+            return output_failed(streams);
         }
         turns -= 1;
     }
@@ -120,7 +122,14 @@ fn copy(buffer: &mut [u8]) -> u32
 
 // The status of a run that stopped with so many bytes left, which were written as they are. Unless the input has ended,
 // what follows is written so too.
-fn stop(buffer: &mut [u8], left: usize, ended: bool, offset: u64, status: u32) -> u32
+fn stop(
+    streams: &mut Streams,
+    buffer: &mut [u8],
+    left: usize,
+    ended: bool,
+    offset: u64,
+    status: u32,
+) -> u32
     requires { AnsweredOrFailed status }
     ensures { (result ≡ (if nat_eq left 0 then status else failed)) × AnsweredOrFailed result }
 {
@@ -128,6 +137,7 @@ fn stop(buffer: &mut [u8], left: usize, ended: bool, offset: u64, status: u32) -
         return status;
     }
     exit::stopped(
+        streams,
         b"chiselbrow-renew: standard input: no record at byte ",
         left,
         offset,
@@ -135,7 +145,7 @@ fn stop(buffer: &mut [u8], left: usize, ended: bool, offset: u64, status: u32) -
     if ended {
         return exit::FAILED;
     }
-    copy(buffer)
+    copy(streams, buffer)
 }
 
 // The status after a step with a record that was refused, or with none.
@@ -150,7 +160,7 @@ fn after_step(status: u32, refused: bool) -> u32
 }
 
 // Step after step.
-fn renew_input(buffer: &mut [u8]) -> u32
+fn renew_input(streams: &mut Streams, buffer: &mut [u8]) -> u32
     requires { 64 ≤ length buffer.old }
     ensures { AnsweredOrFailed result }
 {
@@ -159,14 +169,14 @@ fn renew_input(buffer: &mut [u8]) -> u32
     let mut status = exit::ANSWERED;
     let mut turns = u64::MAX;
     while 0 < turns {
-        let s = read_and_renew(buffer, kept, offset);
+        let s = read_and_renew(streams, buffer, kept, offset);
         if s.failed {
             return exit::FAILED;
         }
         offset = std::num::wrapping_add_u64(offset, s.read as u64);
         status = after_step(status, s.refused);
         if !s.more {
-            return stop(buffer, s.left, s.ended, offset, status);
+            return stop(streams, buffer, s.left, s.ended, offset, status);
         }
         kept = s.left;
         turns -= 1;
@@ -174,16 +184,15 @@ fn renew_input(buffer: &mut [u8]) -> u32
     exit::FAILED
 }
 
-fn renew_all() -> u32
+fn renew_all(streams: &mut Streams) -> u32
     ensures { AnsweredOrFailed result }
 {
-    let mut buffer = [0u8; 65536];
-    renew_input(&mut buffer)
+    let mut buffer = zeros::<65536>();
+    renew_input(streams, &mut buffer)
 }
 
 // Does what the arguments ask, and gives the exit status.
-#[unsafe(no_mangle)]
-pub extern "C" fn renew_run(version: &[u8]) -> u32
+pub fn renew_run<R: Env>(rt: &R, streams: &mut Streams, version: &[u8]) -> u32
     ensures { Ended result }
 {
     let help = b"chiselbrow-renew [--help | --version] < records > renewed\n\
@@ -197,6 +206,8 @@ pub extern "C" fn renew_run(version: &[u8]) -> u32
         the exit status.\n";
     let usage = b"usage: chiselbrow-renew [--help | --version] < records > renewed\n";
     let asked = command_line::reply(
+        rt,
+        streams,
         b"chiselbrow-renew",
         version,
         help,
@@ -204,7 +215,7 @@ pub extern "C" fn renew_run(version: &[u8]) -> u32
         b"chiselbrow-renew: standard output",
     );
     let Asked::Done(status) = asked else {
-        return renew_all();
+        return renew_all(streams);
     };
     status
 }

@@ -1,9 +1,10 @@
 // Records that were refused, told on standard error.
 use framing::next;
 use process::exit;
+use process::streams::Streams;
 
 // Tells a record by its refusal and its place in the input, where it has a refusal.
-fn tell(refusal: u8, place: u64) {
+fn tell(streams: &mut Streams, refusal: u8, place: u64) {
     if refusal == 0 {
         return;
     }
@@ -11,6 +12,7 @@ fn tell(refusal: u8, place: u64) {
     let at = text::word(&mut told, 0, b": ");
     let end = text::refused(&mut told, at, refusal);
     exit::fail_at(
+        streams,
         b"chiselbrow-renew: standard input: record at byte ",
         place,
         &told[..end],
@@ -19,13 +21,13 @@ fn tell(refusal: u8, place: u64) {
 
 // Tells the records that were refused among renewed bytes, of which the first has the given place in the input: they
 // are the ones that are still of kind 2.
-pub(crate) fn tell_refused(renewed: &[u8], offset: u64) {
+pub(crate) fn tell_refused(streams: &mut Streams, renewed: &[u8], offset: u64) {
     let mut at = 0;
     let mut n = next(renewed, at);
     while n != 0 {
         let end = at + n;
         let place = std::num::wrapping_add_u64(offset, at as u64);
-        tell(conversion::left_with(&renewed[at..end]), place);
+        tell(streams, conversion::left_with(&renewed[at..end]), place);
         at = end;
         n = next(renewed, at);
     }
