@@ -109,9 +109,9 @@ $(shared): $(library) chiselbrow.map include/chiselbrow.h
 
 # A program proved with all that it stands on, compiled and linked. rt runs it once it is linked, so it is asked for no
 # more than its version.
-build/chiselbrow: crate = chiselbrow
-build/chiselbrow-renew: crate = renew
-build/almanac: crate = almanac
+build/chiselbrow: crate = installed_chiselbrow
+build/chiselbrow-renew: crate = installed_renew
+build/almanac: crate = installed_almanac
 $(programs): $(crates) | build
 	@echo "proving $(@F) (what the prover says: $@.log)"
 	@cd crates/$(crate) && rt run -- --version < /dev/null > ../../$@.log 2>&1 || { cat ../../$@.log >&2; exit 1; }

@@ -243,7 +243,7 @@
  * has to be built anew; OLD RECORDS, above, tells what else it has to see to.
  * The calendars are those of 1.2, and what 1.2 stored stands as it is. So does
  * what 1.1 stored, since 1.2 only added Jingchu. */
-#define CHISELBROW_VERSION "2.0.5"
+#define CHISELBROW_VERSION "2.0.4"
 
 #ifdef __cplusplus
 extern "C" {

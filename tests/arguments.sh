@@ -90,8 +90,7 @@ almanac pentads SYSTEM YEAR [LAST]
 almanac pentad SYSTEM DAY [LAST]
 almanac submerged SYSTEM YEAR [LAST]
 almanac extinguished SYSTEM YEAR [LAST]
-almanac compare FIRST SECOND YEAR [LAST]
-almanac sun winter|summer FIRST [LAST]'
+almanac compare FIRST SECOND YEAR [LAST]'
 about almanac "usage: ${forms//$'\n'/ | } (see almanac --help)" "$forms"
 unwritable
 unlike

@@ -1,11 +1,11 @@
-// The program almanac. The gate runs it with the words of the file args beside src/.
+// The program almanac for the gate, which runs it with the words of the file args beside src/. The installed one is
+// crates/installed_almanac, which ends with the status of the run.
 #![tactic(auto)]
 
 use almanac_run::almanac_run;
-use process::{exit, streams};
-use std::process::ExitCode;
+use process::streams;
 
-fn main(rt: HostRuntime) -> ExitCode {
+fn main(rt: HostRuntime) {
     let mut streams = streams::open(rt.stdin(), rt.stdout(), rt.stderr());
-    exit::code(almanac_run(&rt, &mut streams, process::VERSION))
+    almanac_run(&rt, &mut streams, b"");
 }

@@ -41,7 +41,7 @@ fn misuse(streams: &mut Streams) -> u32
 {
     exit::misuse(
         streams,
-        b"usage: almanac year SYSTEM YEAR [LAST] | almanac pentads SYSTEM YEAR [LAST] | almanac pentad SYSTEM DAY [LAST] | almanac submerged SYSTEM YEAR [LAST] | almanac extinguished SYSTEM YEAR [LAST] | almanac compare FIRST SECOND YEAR [LAST] | almanac sun winter|summer FIRST [LAST] (see almanac --help)\n",
+        b"usage: almanac year SYSTEM YEAR [LAST] | almanac pentads SYSTEM YEAR [LAST] | almanac pentad SYSTEM DAY [LAST] | almanac submerged SYSTEM YEAR [LAST] | almanac extinguished SYSTEM YEAR [LAST] | almanac compare FIRST SECOND YEAR [LAST] (see almanac --help)\n",
     )
 }
 
@@ -113,7 +113,6 @@ fn help(streams: &mut Streams) -> u32
         almanac submerged SYSTEM YEAR [LAST]\n\
         almanac extinguished SYSTEM YEAR [LAST]\n\
         almanac compare FIRST SECOND YEAR [LAST]\n\
-        almanac sun winter|summer FIRST [LAST]\n\
         almanac --help | --version\n\
         \n\
         year prints the page of YEAR, or of each year from YEAR to LAST, by the calendar\n\
@@ -130,14 +129,10 @@ fn help(streams: &mut Streams) -> u32
         day. Both are for Guantian and Jiyuan only.\n\
         compare prints where the months of YEAR, or of each year from YEAR to LAST,\n\
         differ between the calendars with the numbers FIRST and SECOND.\n\
-        sun prints, for each day from FIRST to LAST, counted in whole days after the\n\
-        winter or the summer solstice, the sun's excess or shortfall by Guantian, in\n\
-        ten-thousandths of a degree. Days go from 0 to 182.\n\
         In place of a page or line stands `refused 4` if there is no such calendar, or\n\
         not for this request, `refused 5` if the year is outside 1 to 3000, and\n\
         `refused 7` if the day is outside these years as counted from solstice to\n\
-        solstice: 1721414 to 2817144, and for Jingchu 1721416 to 2817156; for sun, if it\n\
-        is above 182.\n\
+        solstice: 1721414 to 2817144, and for Jingchu 1721416 to 2817156.\n\
         The manual page almanac(1) tells the lines and the exit status.\n";
     exit::reply(streams, text, b"almanac: standard output")
 }

@@ -1,11 +1,11 @@
-// The program chiselbrow. The gate runs it on the file stdin beside src/.
+// The program chiselbrow for the gate, which runs it on the file stdin beside src/. The installed one is
+// crates/installed_chiselbrow, which ends with the status of the run.
 #![tactic(auto)]
 
 use chiselbrow_run::chiselbrow_run;
-use process::{exit, streams};
-use std::process::ExitCode;
+use process::streams;
 
-fn main(rt: HostRuntime) -> ExitCode {
+fn main(rt: HostRuntime) {
     let mut streams = streams::open(rt.stdin(), rt.stdout(), rt.stderr());
-    exit::code(chiselbrow_run(&rt, &mut streams, process::VERSION))
+    chiselbrow_run(&rt, &mut streams, b"");
 }

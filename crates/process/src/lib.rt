@@ -6,4 +6,4 @@ pub mod exit;
 pub mod streams;
 
 // The version of the programs, which include/chiselbrow.h tells C.
-pub const VERSION: &[u8] = b"2.0.5";
+pub const VERSION: &[u8] = b"2.0.4";

@@ -1,11 +1,11 @@
-// The program chiselbrow-renew. The gate runs it on the file stdin beside src/.
+// The program chiselbrow-renew for the gate, which runs it on the file stdin beside src/. The installed one is
+// crates/installed_renew, which ends with the status of the run.
 #![tactic(auto)]
 
-use process::{exit, streams};
+use process::streams;
 use renew_run::renew_run;
-use std::process::ExitCode;
 
-fn main(rt: HostRuntime) -> ExitCode {
+fn main(rt: HostRuntime) {
     let mut streams = streams::open(rt.stdin(), rt.stdout(), rt.stderr());
-    exit::code(renew_run(&rt, &mut streams, process::VERSION))
+    renew_run(&rt, &mut streams, b"");
 }

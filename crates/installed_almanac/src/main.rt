@@ -1,0 +1,11 @@
+// The program almanac, as it is installed.
+#![tactic(auto)]
+
+use almanac_run::almanac_run;
+use process::{exit, streams};
+use std::process::ExitCode;
+
+fn main(rt: HostRuntime) -> ExitCode {
+    let mut streams = streams::open(rt.stdin(), rt.stdout(), rt.stderr());
+    exit::code(almanac_run(&rt, &mut streams, process::VERSION))
+}
