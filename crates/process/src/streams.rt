@@ -21,7 +21,7 @@ pub fn zeros<const N: usize>() -> [u8; N]
 }
 
 // What a read gave: so many bytes, none at the end of the input; or it failed, and errno tells why.
-#[derive(Drop)]
+#[derive(Clone, Copy)]
 pub struct Got {
     pub failed: bool,
     pub count: usize,
