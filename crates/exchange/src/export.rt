@@ -11,13 +11,7 @@ use reckoning::refusal_numbers::{OUTPUT, REFUSAL_UNIT, SYSTEM, TIME};
 // Exports a register day with a time in whole parts, of which small units are cut off. The output's first thirteen bytes
 // become the row, and the rest is left; the answer is 1 where small units were cut off, and otherwise 0. Refused, it is
 // 2^32 times the refusal number, and no byte changes.
-pub fn chiselbrow_export(
-    system: u64,
-    day: u32,
-    parts: u64,
-    units: u64,
-    output: &mut [u8],
-) -> u64
+pub fn chiselbrow_export(system: u64, day: u32, parts: u64, units: u64, output: &mut [u8]) -> u64
     ensures value { result ≡ export_answer system parts units (length output.old) }
     ensures output_after { output.new ≡ exported_into system day parts output.old }
 {
