@@ -104,8 +104,8 @@ $(library): $(objects:%=build/lib%.a)
 $(shared): $(library) chiselbrow.map include/chiselbrow.h
 	$(CC) -shared -nostdlib -Wl,-soname,$(soname),-z,defs,--version-script=chiselbrow.map -o $@ \
 	    -Wl,--whole-archive $(library)
-	ln -sf $(notdir $@) build/$(soname)
-	ln -sf $(soname) build/libchiselbrow.so
+	cp $@ build/$(soname)
+	cp $@ build/libchiselbrow.so
 
 # A program proved with all that it stands on, compiled and linked. rt runs it once it is linked, so it is asked for no
 # more than its version.
