@@ -45,7 +45,7 @@ test-tools: $(test_tools)
 # Every test, two at a time, and last the gate.
 test: all test-tools
 	@printf '%s\n' $(tests) | xargs -P 2 -I % sh -c '% || { echo "% failed" >&2; exit 255; }'
-	@rt ci
+	@tests/gate.sh
 
 # The storing step, the conversion, the exchange, heads, the sun and the programs, beside C written by hand.
 bench: all $(bench_tools)
