@@ -13,7 +13,7 @@ import re
 import sys
 
 NAME = re.compile(r"(?<![\w'⊎◌⌜-])[A-Za-zℕℤ_][\w']*(?:-[\w'*+]+)*")
-SIGNATURE = re.compile(r"^\s*(?:(?:pub|abbrev|unfoldable|ruleset)\s+)*([a-z][\w'-]*)\s+:\s")
+SIGNATURE = re.compile(r"^\s*(?:(?:pub|abbrev|unfoldable|ruleset)\s+)*([a-z][\w'-]*)\s+:(?:\s|$)")
 RULESET = re.compile(r"^\s*(?:pub\s+)?ruleset\s+(?:pub\s+)?([a-z][\w'-]*)")
 MADE = re.compile(r":\s+(?:tie\.(?:Need|invariant|decreases)|\{M : Type 1\} → statement)")
 BOUND = [

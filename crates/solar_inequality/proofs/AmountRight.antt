@@ -114,7 +114,7 @@ within_limit = Taking.within
 
 -- Days 88 after winter and 93 after summer are the last that are taken as they are; of the next, what is taken is
 -- 7,480/12,030 more than 93 or 88 days, by the other season's limit.
-pub around-the-turn :
+pub around_the_turn :
     taken_of Winter 88 ∷ taken_of Winter 89 ∷ taken_of Summer 93 ∷ taken_of Summer 94 ∷ []
     ≡ record { parts = 88 * 12_030; season = Winter }
     ∷ record { parts = 93 * 12_030 + 7480; season = Summer }
@@ -122,7 +122,7 @@ pub around-the-turn :
     ∷ record { parts = 88 * 12_030 + 7480; season = Winter }
     ∷ []
 unfolding taken_of
-around-the-turn = refl
+around_the_turn = refl
 
 pub as_it_is_after_winter : (x : ℕ) → (x * in_day ≤ winter_limit.parts) ↔ (x ≤ 88)
 as_it_is_after_winter x = (λ h. omega arith, λ h. omega arith)

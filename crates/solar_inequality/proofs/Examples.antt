@@ -13,18 +13,18 @@ abbrev refused : Answer
 refused = record { refusal = 7; amount = 0 }
 
 -- Day 88 is 23,996.1 and day 89 is 24,000.3; day 1 is 536.8, which is cut down.
-pub after-winter :
+pub after_winter :
     map (answer_of Winter) (0 ∷ 1 ∷ 2 ∷ 45 ∷ 88 ∷ 89 ∷ 90 ∷ 181 ∷ 182 ∷ [])
     ≡ map amount (0 ∷ 536 ∷ 1067 ∷ 18_145 ∷ 23_996 ∷ 24_000 ∷ 23_997 ∷ 823 ∷ 317 ∷ [])
 unfolding answer_of taken_of amount_taken
-after-winter = refl
+after_winter = refl
 
 -- Day 93 is 23,998.98 and day 94 is 23,998.4.
-pub after-summer :
+pub after_summer :
     map (answer_of Summer) (0 ∷ 1 ∷ 2 ∷ 45 ∷ 92 ∷ 93 ∷ 94 ∷ 95 ∷ 181 ∷ 182 ∷ [])
     ≡ map amount (0 ∷ 509 ∷ 1013 ∷ 17_515 ∷ 23_992 ∷ 23_998 ∷ 23_998 ∷ 23_993 ∷ 867 ∷ 334 ∷ [])
 unfolding answer_of taken_of amount_taken
-after-summer = refl
+after_summer = refl
 
 pub past_182 : map (answer_of Winter) (183 ∷ 365 ∷ 4_294_967_295 ∷ []) ++ map (answer_of Summer) (183 ∷ 365 ∷ 4_294_967_295 ∷ [])
     ≡ refused ∷ refused ∷ refused ∷ refused ∷ refused ∷ refused ∷ []

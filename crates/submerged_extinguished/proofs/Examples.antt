@@ -20,7 +20,7 @@ none_after day = answer_at (as_register_day day) None
 
 -- Remainders of Guantian: 9,401 parts and 24 small units, the last before the limit; 9,403 and 12, the first after it;
 -- 12,028 and 12, the greatest; 10,628 and 12, where small units left out would give 9.
-pub guantian-submerged :
+pub guantian_submerged :
     submerged_of 1 1094 1
     ∷ submerged_of 1 1209 5
     ∷ submerged_of 1 1087 22
@@ -29,11 +29,11 @@ pub guantian-submerged :
     ∷ []
     ≡ after 7 2_120_640 ∷ none_after 2_162_704 ∷ after 15 2_118_403 ∷ after 1 2_097_173 ∷ after 8 2_071_880 ∷ []
 unfolding submerged_in submerged_by step_of step_refusal
-guantian-submerged = refl
+guantian_submerged = refl
 
 -- Of Jiyuan: 5,697 parts; and a quarter; and a half; 7,289 and three quarters, the greatest; 6,759 and three quarters,
 -- where quarters left out would give 6.
-pub jiyuan-submerged :
+pub jiyuan_submerged :
     submerged_of 2 1884 12
     ∷ submerged_of 2 2104 23
     ∷ submerged_of 2 1110 10
@@ -42,7 +42,7 @@ pub jiyuan-submerged :
     ∷ []
     ≡ none_after 2_409_350 ∷ after 16 2_489_871 ∷ after 15 2_126_621 ∷ after 1 2_409_365 ∷ after 5 2_112_909 ∷ []
 unfolding submerged_in submerged_by step_of step_refusal
-jiyuan-submerged = refl
+jiyuan_submerged = refl
 
 -- Qi 0 and 24 of a year, and 24 of the last.
 pub first_and_last_qi : submerged_of 2 1107 0 ∷ submerged_of 1 1094 24 ∷ submerged_of 1 3000 24 ∷ []
@@ -54,7 +54,7 @@ first_and_last_qi = refl
 abbrev refused : ℕ → Answer
 refused number = record { refusal = number; day = record { 0 = 0 }; distance = None }
 
-pub submerged-refused :
+pub submerged_refused :
     submerged_of 3 1094 1
     ∷ submerged_of 3 0 25
     ∷ submerged_of 0 1094 1
@@ -64,25 +64,25 @@ pub submerged-refused :
     ∷ []
     ≡ refused 4 ∷ refused 4 ∷ refused 4 ∷ refused 5 ∷ refused 5 ∷ refused 9 ∷ []
 unfolding submerged_in submerged_by step_of step_refusal
-submerged-refused = refl
+submerged_refused = refl
 
 -- At the limits, where no year has such a remainder: 9,401 parts and 35 small units, and 9,402; 5,697, and a quarter.
-pub submerged-limits :
+pub submerged_limits :
     submerged_after 1 9401 35 ∷ submerged_after 1 9402 0 ∷ submerged_after 2 5697 0 ∷ submerged_after 2 5697 1 ∷ []
     ≡ None ∷ Days 15 ∷ None ∷ Days 16 ∷ []
 unfolding submerged_by
-submerged-limits = refl
+submerged_limits = refl
 
 -- Where 30 times the remainder comes to the divisor, and at the shortfall.
-pub extinguished-limits :
+pub extinguished_limits :
     map (extinguished_by guantian_rule) (0 ∷ 188 ∷ 189 ∷ 5646 ∷ 5647 ∷ [])
     ++ map (extinguished_by jiyuan_rule) (0 ∷ 114 ∷ 115 ∷ 3421 ∷ 3422 ∷ [])
     ≡ Days 0 ∷ Days 0 ∷ Days 1 ∷ Days 29 ∷ None ∷ Days 0 ∷ Days 0 ∷ Days 1 ∷ Days 29 ∷ None ∷ []
 unfolding extinguished_by
-extinguished-limits = refl
+extinguished_limits = refl
 
 -- Remainders of Guantian: 5,647, the shortfall, and 0, a new moon later; 5,646. Of Jiyuan: 3,422 and 0; 3,420.
-pub extinguished-days :
+pub extinguished_days :
     extinguished_of 1 1094 2
     ∷ extinguished_of 1 1101 8
     ∷ extinguished_of 1 1101 9
@@ -100,7 +100,7 @@ pub extinguished-days :
     ∷ after 29 2_098_276
     ∷ []
 unfolding extinguished_of extinguished_days_of extinguished_from extinguished_by year_refusal filled
-extinguished-days = refl
+extinguished_days = refl
 
 -- The first place and the last: 1092 has twelve months, and 1094 thirteen.
 pub first_and_last_moon : extinguished_of 2 1107 1 ∷ extinguished_of 1 1092 12 ∷ extinguished_of 1 1094 13 ∷ []
@@ -109,7 +109,7 @@ unfolding extinguished_of extinguished_days_of extinguished_from extinguished_by
 first_and_last_moon = refl
 
 -- Refused: the system, the year, and places that the year lacks.
-pub extinguished-refused :
+pub extinguished_refused :
     extinguished_of 3 1094 1
     ∷ extinguished_of 3 0 0
     ∷ extinguished_of 2 0 14
@@ -120,4 +120,4 @@ pub extinguished-refused :
     ∷ []
     ≡ refused 4 ∷ refused 4 ∷ refused 5 ∷ refused 5 ∷ refused 7 ∷ refused 7 ∷ refused 7 ∷ []
 unfolding extinguished_of extinguished_days_of extinguished_from extinguished_by year_refusal filled
-extinguished-refused = refl
+extinguished_refused = refl
