@@ -100,7 +100,7 @@ objects = citation_c conversion_c exchange_c
 $(library): $(objects:%=build/lib%.a)
 	cd build && for object in $(objects); do ar x lib$$object.a || exit 1; done && ar rcs $(notdir $@) $(objects:%=%.o)
 
-# It needs no other library, and exports what the list says. The links are those that install makes.
+# It needs no other library, and exports what the list says. Under its other names it is a copy: the gate refuses links.
 $(shared): $(library) chiselbrow.map include/chiselbrow.h
 	$(CC) -shared -nostdlib -Wl,-soname,$(soname),-z,defs,--version-script=chiselbrow.map -o $@ \
 	    -Wl,--whole-archive $(library)
