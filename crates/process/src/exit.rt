@@ -1,7 +1,7 @@
 // Exit statuses, with the words that go to standard error.
-ghost use Rattle.std.specs.Prelude.{◌≡◌, cond, eqb};
+ghost use Rattle.std.specs.Prelude.{◌≡◌, ◌%◌, cond, eqb};
 ghost use Rattle.std.specs.Process.{exit_status};
-ghost use Rattle.process.specs.Exit.{answered, failed, misused, AnsweredOrFailed, Ended};
+ghost use Rattle.process.specs.Exit.{answered, failed, misused, AnsweredOrFailed};
 
 use crate::streams;
 use crate::streams::Streams;
@@ -15,12 +15,11 @@ pub const FAILED: u32 = 1;
 // The arguments were wrong.
 pub const MISUSED: u32 = 2;
 
-// What a program ends with that has this status.
+// What a program ends with that has this status, of which the system takes the lowest byte.
 pub fn code(status: u32) -> ExitCode
-    requires { Ended status }
-    ensures { exit_status result ≡ status }
+    ensures { exit_status result ≡ status % 256 }
 {
-    ExitCode::from(status as u8)
+    ExitCode::from((status % 256) as u8)
 }
 
 // The first bytes of a line to standard error, so many of them. It is written by one call, so that it stays whole where
