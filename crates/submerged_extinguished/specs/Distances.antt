@@ -2,7 +2,7 @@
 -- whole days, cut down.
 use Rattle.std.specs.Prelude.{ℕ, ◌+◌, ◌*◌, ◌-◌, ◌≤◌, ◌<◌, ◌≡◌}
 use Rattle.calendar.specs.declared.data.Constants.{Constants}
-use Rattle.calendar.specs.CutDown.{CutDown}
+pub use Rattle.calendar.specs.CutDown.{CutDown}
 use Rattle.submerged_extinguished.specs.declared.data.Distance.{Distance}
 use Rattle.submerged_extinguished.specs.declared.data.Distance.TheVariants.{Days, None}
 use Rattle.submerged_extinguished.specs.declared.rules.Rule.{Rule}
