@@ -96,6 +96,7 @@ pub(crate) fn none(refusal: u8) -> Month
 
 // The month of year n with a number and a leap mark. Which month is leap, if not this one, `leap_months` finds: with
 // that search in it, this function would be too long for the compiler to copy it to each system's constants.
+#[inline(always)]
 fn month_of_year(c: Constants, n: u64, number: u32, leap: u32) -> Month
     requires { YearInRegister c n }
     ensures { result ≡ month_in c n number leap 0 }
@@ -120,6 +121,7 @@ fn month_of_year(c: Constants, n: u64, number: u32, leap: u32) -> Month
     at(c, next)
 }
 
+#[inline(always)]
 pub(crate) fn of_common_year(c: Constants, year: u32, number: u32, leap: u32) -> Month
     requires { YearsInRegister c }
     ensures { result ≡ answer_of_year c year (month_silent number leap) no_month }
