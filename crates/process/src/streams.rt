@@ -1,6 +1,6 @@
 // Standard input and output and standard error, a failure told apart from the end. A call that a signal interrupts is
 // made again. What a call reads or writes is the system's, and no contract can say it.
-ghost use Rattle.std.specs.Prelude.{◌≡◌, true, ◌≤◌, length};
+ghost use Rattle.std.specs.Prelude.{◌≡◌, ℕ, true, pos, ◌<◌, ◌≤◌, length, slice_index};
 
 use std::io::{Cursor, Error, ErrorKind, Read, Stderr, Stdin, Stdout, Write};
 
@@ -13,9 +13,10 @@ pub struct Streams {
     errno: i32,
 }
 
-// Room for what is read or written. What is known of it is its length.
+// Room for what is read or written.
 pub fn zeros<const N: usize>() -> [u8; N]
-    ensures { length result ≡ N }
+    ensures size { length result ≡ N }
+    ensures each { (i : ℕ) → i < N → slice_index result i ≡ 0 }
 {
     [0; N]
 }
@@ -28,7 +29,9 @@ pub struct Got {
 }
 
 // None of them has failed yet.
-pub fn open(input: Stdin, output: Stdout, errors: Stderr) -> Streams {
+pub fn open(input: Stdin, output: Stdout, errors: Stderr) -> Streams
+    ensures { result ≡ record { input = input; output = output; errors = errors; errno = pos 0 } }
+{
     Streams {
         input: input,
         output: output,
