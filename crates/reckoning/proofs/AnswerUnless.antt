@@ -5,13 +5,12 @@ use mathlib.Core.Bool.{Bool, true, false, cond}
 use native.Mathlib.Omega.{arith}
 use borrow.Author.Tests.{eq-eqb, ne_eqb}
 use Rattle.calendar.specs.declared.data.Constants.{Constants}
-use Rattle.reckoning.specs.declared.asked.Asked.{Asked}
 use Rattle.calendar.specs.Inside.{Inside}
 use Rattle.calendar.specs.Systems.{last_system, constants_of, years_elapsed}
 use Rattle.reckoning.specs.ComputedRefusals.{out_of_years, year_refusal}
 use Rattle.reckoning.specs.RefusalNumbers.{SYSTEM, YEAR}
 use Rattle.reckoning.proofs.RefusalCases.{inside_of, in_scope, accepted, by_inside, by_scope}
-use Rattle.reckoning.specs.Asked.{asked_of}
+use Rattle.reckoning.specs.Asked.{Asked, asked_of}
 use Rattle.reckoning.specs.Requests.{answer_to, answer_unless, answer_of_system, answer_of_year}
 use Rattle.reckoning.specs.WordBounds.{YearInRegister}
 use Rattle.reckoning.specs.Scope.{YearInScope, InScope}

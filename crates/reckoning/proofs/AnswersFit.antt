@@ -6,18 +6,17 @@ use Rattle.calendar.specs.Systems.{constants_of, years_elapsed}
 use Rattle.calendar.proofs.EachSystem.{consistent}
 use Rattle.calendar.proofs.Reckoned.{reckoned}
 use Rattle.calendar.proofs.Spans.{within}
-use Rattle.reckoning.specs.declared.data.Month.{Month}
-use Rattle.reckoning.specs.declared.data.Date.{Date}
+use Rattle.reckoning.specs.Answers.{MonthAnswer, DateAnswer}
 use Rattle.reckoning.specs.Requests.{month_of, date_of}
 use Rattle.reckoning.specs.Outcomes.{MonthOutcome, DateOutcome}
 use Rattle.reckoning.proofs.ScopeInRegister.{year_in_register}
 use Rattle.reckoning.proofs.RequestsEnd.{month_outcome, date_outcome}
 
-pub record MonthFits (v : Month) : Type 0 where
+pub record MonthFits (v : MonthAnswer) : Type 0 where
   pub head_small : v.head.0 < 2 ^ 31
   pub length_most : v.length ≤ 30
 
-pub month_fits : (system year number leap : ℕ) (v : Month) → v ≡ month_of system year number leap → v.refusal ≡ 0 → MonthFits v
+pub month_fits : (system year number leap : ℕ) (v : MonthAnswer) → v ≡ month_of system year number leap → v.refusal ≡ 0 → MonthFits v
 month_fits system year number leap v e z = go (subst (MonthOutcome system year number leap) (sym e) (month_outcome system year number leap))
   where
     go : MonthOutcome system year number leap v → MonthFits v
@@ -34,7 +33,7 @@ month_fits system year number leap v e z = go (subst (MonthOutcome system year n
         }
 
 -- A date's year fits two bytes.
-pub date_fits : (system r : ℕ) {v : Date} → v ≡ date_of system r → v.refusal ≡ 0 → v.year < 2 ^ 16
+pub date_fits : (system r : ℕ) {v : DateAnswer} → v ≡ date_of system r → v.refusal ≡ 0 → v.year < 2 ^ 16
 date_fits system r {v} e z = go (subst (DateOutcome system r) (sym e) (date_outcome system r))
   where
     go : DateOutcome system r v → v.year < 2 ^ 16

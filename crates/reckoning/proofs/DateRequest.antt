@@ -9,7 +9,6 @@ use Rattle.calendar.specs.Calendar.{Calendar}
 use Rattle.calendar.specs.ClosedForms.{month_of_day, head_of_year, year_of_month}
 use Rattle.calendar.proofs.Reckoned.{reckoned}
 use Rattle.calendar.proofs.EveryCalendar.{year_from, year_before}
-use Rattle.reckoning.specs.declared.data.Date.{Date}
 use Rattle.reckoning.specs.declared.month_spans.MonthSpan.{MonthSpan}
 use Rattle.reckoning.specs.declared.month_spans.LastQi.{LastQi}
 use Rattle.reckoning.specs.MonthSpans.{month_span, last_qi}
@@ -20,11 +19,10 @@ use Rattle.reckoning.specs.RefusalNumbers.{DAY}
 use Rattle.reckoning.proofs.YearOfDay.{before_years, is_its_day, day_outside, day_inside}
 
 -- A day before the epoch.
-pub date_before : (c : Constants) (r : ℕ) {early : Bool} {v : Date} → early ≡ before_epoch c r → v ≡ no_date DAY
-    → early ≡ true
-    → v ≡ date_in c r
+pub date_before : (c : Constants) (r : ℕ) {early : Bool} → early ≡ before_epoch c r → early ≡ true
+    → no_date DAY ≡ date_in c r
 unfolding date_in
-date_before c r test e before = e ∙ simp (before_years (head_of_year c) c r (sym test ∙ before))
+date_before c r test before = simp (before_years (head_of_year c) c r (sym test ∙ before))
 
 -- The request for one from the epoch on, by the day's month and its last middle qi.
 module _ {c : Constants} (fit : ConstantsFit c) (r : ℕ) {early : Bool} (tested : early ≡ before_epoch c r)
@@ -56,11 +54,10 @@ module _ {c : Constants} (fit : ConstantsFit c) (r : ℕ) {early : Bool} (tested
       scope_is : b ≡ out_of_scope c (year_of_month c k)
       scope_is = test ∙ ap (out_of_scope c) year_is
 
-      pub date_outside : {v : Date} → v ≡ no_date DAY → b ≡ true → v ≡ date_in c r
+      pub date_outside : b ≡ true → no_date DAY ≡ date_in c r
       unfolding date_in
-      date_outside e out =
-          e
-          ∙ simp (day_outside c fit.consistent.epoch_before (head_of_year c) r d (year_of_month c k) (is_its_day c r (sym tested ∙ passed) day)
+      date_outside out =
+          simp (day_outside c fit.consistent.epoch_before (head_of_year c) r d (year_of_month c k) (is_its_day c r (sym tested ∙ passed) day)
           (λ m. year_from K m d)
           (λ m. year_before K m d)
           (sym scope_is ∙ out))

@@ -17,6 +17,7 @@ use Rattle.reckoning.specs.declared.month_spans.MonthSpan.{MonthSpan}
 use Rattle.reckoning.specs.MonthSpans.{month_span}
 use Rattle.reckoning.specs.WordBounds.{HeadInRegister, YearInRegister, MonthsInRegister}
 use Rattle.reckoning.specs.Requests.{as_register_day, days_in, head_at, months_from, year_in}
+use Rattle.reckoning.specs.Told.{days_answered}
 use Rattle.reckoning.proofs.RegisterLaws.{months_in_register, first_head, next_head_lem, register_rises, register_length_most}
 
 -- A year begins with the month of its head.
@@ -58,7 +59,7 @@ module _ {c : Constants} {n : ℕ} (y : YearInRegister c n) where
     days_between =
         subst₂ (λ a b. (a ≤ b) × (b - a ≤ 384)) (sym from_is) (sym to_is) (register_rises c n y, register_length_most c n y)
 
-    pub days_of_lem : record { refusal = 0; head = head; length = next.0 - head.0 } ≡ days_in c n
+    pub days_of_lem : days_answered (record { head = head; length = next.0 - head.0 }) ≡ days_in c n
     days_of_lem =
         let length = ap₂ (λ a b. b - a) from_is to_is in
         λ j. record { refusal = 0; head = from j; length = length j }

@@ -1,6 +1,8 @@
 -- Proofs that serve several functions, and theorems on what the requests answer.
 -- Refusals: which rule applies, and what an accepted request has.
 pub mod RefusalCases
+-- What is told of a result.
+pub mod ToldCases
 -- Years in scope keep the bounds.
 pub mod ScopeInRegister
 -- The constants that a system's number picks.

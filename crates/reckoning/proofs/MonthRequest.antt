@@ -3,6 +3,7 @@ use Prim.Native.Nat.{ℕ, ◌+◌, ◌%◌, ◌≤◌, ◌<◌}
 use mathlib.Core.Path.{◌≡◌, refl, subst, sym, ap, ◌∙◌}
 use mathlib.Core.Bool.{true, false}
 use native.Mathlib.Omega.{arith}
+use Rattle.std.proofs.Common.{Option, Result, Err}
 use borrow.Author.Tests.{lt-ltb, le-ltb}
 use Rattle.calendar.specs.declared.data.Constants.{Constants}
 use Rattle.calendar.specs.Inside.{Inside}
@@ -14,7 +15,10 @@ use Rattle.calendar.specs.LeapMonth.{leap_number}
 use Rattle.calendar.proofs.Cases.{by_bool}
 use Rattle.calendar.proofs.Reckoned.{reckoned, month_from, month_before}
 use Rattle.calendar.proofs.EveryCalendar.{Within, within_of_qi}
+use Rattle.reckoning.specs.Answers.{MonthAnswer}
 use Rattle.reckoning.specs.declared.data.Month.{Month}
+use Rattle.reckoning.specs.declared.refusal.Refusal.{Refusal}
+use Rattle.reckoning.specs.declared.refusal.Refusal.TheVariants.{NotLeap}
 use Rattle.reckoning.specs.declared.month_spans.MonthSpan.{MonthSpan}
 use Rattle.reckoning.specs.MonthSpans.{month_span}
 use Rattle.reckoning.specs.Scope.{InScope}
@@ -22,7 +26,8 @@ use Rattle.reckoning.specs.WordBounds.{SpanFits, InRegister, YearInRegister}
 use Rattle.reckoning.specs.ComputedRefusals.{outside, year_refusal, month_wrong, leap_wrong}
 use Rattle.reckoning.proofs.RefusalCases.{inside_of}
 use Rattle.reckoning.specs.Requests.{answer_unless, month_at, no_month_telling, no_month, month_in, month_silent, month_telling, month_of}
-use Rattle.reckoning.specs.RefusalNumbers.{YEAR, MONTH, LEAP}
+use Rattle.reckoning.specs.RefusalNumbers.{YEAR, MONTH, LEAP, number_or_0}
+use Rattle.reckoning.specs.Told.{told_month}
 use Rattle.reckoning.proofs.AnswerUnless.{refused_year, answered_year, by_answer}
 use Rattle.reckoning.proofs.MonthSpanLaws.{span_fits}
 
@@ -73,8 +78,13 @@ module _ (c : Constants) (n number leap told : ℕ) where
       (λ e. simp e)
       (λ e. by_bool (leap_wrong c n number leap) (λ f. absurd (other (simp (e, f)))) (λ f. simp (e, f)))
 
+-- What is told of a leap month that a year does not have.
+pub told_leap : {r : Result Month Refusal} {leap : Option ℕ} {told : ℕ} → r ≡ Err (NotLeap leap) → number_or_0 leap ≡ told
+    → told_month r ≡ no_month_telling LEAP told
+told_leap is e = ap told_month is ∙ ap (no_month_telling LEAP) e
+
 -- The whole request, from the month found and what is told.
-module _ (system year number leap : ℕ) {m : Month}
+module _ (system year number leap : ℕ) {m : MonthAnswer}
     (is : m ≡ answer_unless (year_refusal system year) system year (month_silent number leap) no_month)
   where
     abbrev c : Constants
@@ -106,9 +116,9 @@ module _ (system year number leap : ℕ) {m : Month}
         ∙ telling c n number leap (leap_number c n) (sym (ap (λ x. x.refusal) found) ∙ l)
         ∙ answered s)
 
-    pub month_answered : (m.refusal ≡ LEAP → ⊥) → m ≡ month_of system year number leap
+    pub month_of_found : (m.refusal ≡ LEAP → ⊥) → m ≡ month_of system year number leap
     unfolding month_of
-    month_answered l =
+    month_of_found l =
         by_found
         (λ refusal e i here blank.
         blank ∙ sym (refused_year (month_telling number leap) no_month system year refusal e i.at_least))

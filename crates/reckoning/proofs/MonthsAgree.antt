@@ -12,13 +12,13 @@ use Rattle.calendar.specs.ClosedForms.{month_number}
 use Rattle.calendar.proofs.EachSystem.{consistent}
 use Rattle.calendar.proofs.Numbers.{number_unique, number_of_lacking}
 use Rattle.calendar.proofs.HeldQi.{moon_told, leap_just_when_none, number_by_index, indexes_all_told}
-use Rattle.reckoning.specs.declared.data.Year.{Year}
+use Rattle.reckoning.specs.Answers.{YearAnswer}
 use Rattle.reckoning.specs.Scope.{InScope}
 use Rattle.reckoning.specs.Requests.{year_of}
 use Rattle.reckoning.specs.YearValue.{head_in, number_in, leap_in, remainder_in, held_in, ListsMonths, MonthsAgree}
 use Rattle.reckoning.proofs.MonthsRight.{head_upto, head_after, year_holds}
 
-module _ (c : Constants) (ok : Consistent c) (n : ℕ) (v : Year) (y : ListsMonths c n v) where
+module _ (c : Constants) (ok : Consistent c) (n : ℕ) (v : YearAnswer) (y : ListsMonths c n v) where
   -- What the leap mark stands for.
   lacks : (i : ℕ) → i < v.count → leap_in v i ≡ 1 → Lacks c (y.span.first + i)
   lacks i h e = ⊎_elim (λ p. absurd (omega (arith, p.0))) (λ p. p.1) (y.leap i h)

@@ -19,7 +19,7 @@ use Rattle.calendar.proofs.Spans.{span, span_first, span_next}
 use Rattle.calendar.proofs.Numbers.{bears_its_number, marked}
 use Rattle.calendar.proofs.HeldQi.{held_told}
 use Rattle.calendar.proofs.Laws.{month_days, year_months, months_cover, twelve_none_lacks, thirteen_one_leap}
-use Rattle.reckoning.specs.declared.data.Year.{Year}
+use Rattle.reckoning.specs.Answers.{YearAnswer}
 use Rattle.reckoning.specs.Scope.{InScope}
 use Rattle.reckoning.specs.Asked.{asked_of}
 use Rattle.reckoning.specs.WordBounds.{InRegister, YearInRegister}
@@ -93,7 +93,7 @@ module _ (c : Constants) (n : ℕ) (r : YearInRegister c n) where
       }
 
 -- A value that holds the months of a year is tiled by them.
-module _ (c : Constants) (ok : Consistent c) (n : ℕ) (v : Year) (y : ListsMonths c n v) where
+module _ (c : Constants) (ok : Consistent c) (n : ℕ) (v : YearAnswer) (y : ListsMonths c n v) where
   last : y.span.first + v.count ≡ y.span.next
   last = omega (arith, y.count, span_first c ok y.span, span_next c ok y.span, count_least (reckoned c ok) n)
 

@@ -12,8 +12,7 @@ use Rattle.calendar.specs.ClosedForms.{month_of_day, qi_of_month, head_of_year, 
 use Rattle.calendar.proofs.Rising.{by_order}
 use Rattle.calendar.proofs.Reckoned.{reckoned}
 use Rattle.calendar.proofs.EveryCalendar.{year_from, year_before}
-use Rattle.reckoning.specs.declared.data.YearHead.{YearHead}
-use Rattle.reckoning.specs.declared.data.OrdinalDay.{OrdinalDay}
+use Rattle.reckoning.specs.Answers.{YearHeadAnswer, OrdinalAnswer}
 use Rattle.reckoning.specs.ComputedRefusals.{year_refusal}
 use Rattle.reckoning.specs.Scope.{InScope}
 use Rattle.reckoning.specs.declared.month_spans.MonthSpan.{MonthSpan}
@@ -98,7 +97,7 @@ module _ {c : Constants} {n ordinal : ℕ} (y : YearInRegister c n) (some : 0 < 
           ∙ simp there
 
 -- The whole request, from the year's head.
-module _ (system year ordinal : ℕ) {h : YearHead} (is : h ≡ year_head_of system year) where
+module _ (system year ordinal : ℕ) {h : YearHeadAnswer} (is : h ≡ year_head_of system year) where
   by_head : {P : Type 0}
       → ((refusal : ℕ) → year_refusal system year ≡ refusal → Inside 1 YEAR refusal → h.refusal ≡ refusal → h ≡ no_year_head refusal → P)
       → (InScope system year → h ≡ year_head_in (constants_of system) (years_elapsed (constants_of system) year) → P)
@@ -121,7 +120,7 @@ module _ (system year ordinal : ℕ) {h : YearHead} (is : h ≡ year_head_of sys
     pub head_found : h.day ≡ register_head (constants_of system) (years_elapsed (constants_of system) year)
     head_found = by_head (λ refusal e i here blank. absurd (omega (arith, i))) (λ s found. ap (λ x. x.day) found)
 
-    pub day_answered : {v : OrdinalDay} → v ≡ ordinal_day_in ordinal (constants_of system) (years_elapsed (constants_of system) year)
+    pub day_answered : {v : OrdinalAnswer} → v ≡ ordinal_day_in ordinal (constants_of system) (years_elapsed (constants_of system) year)
         → v ≡ ordinal_day_of system year ordinal
     unfolding ordinal_day_of
     day_answered e = e ∙ answered_year (ordinal_day_in ordinal) no_ordinal_day system year head_in_scope

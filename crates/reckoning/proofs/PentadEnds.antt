@@ -8,7 +8,7 @@ use Rattle.calendar.specs.Pentad.{InForce, InSolarYear}
 use Rattle.calendar.specs.ClosedForms.{pentad_on}
 use Rattle.calendar.proofs.EachSystem.{consistent}
 use Rattle.calendar.proofs.PentadLaws.{in_force, only_in_force, year_from, year_before, solar_year}
-use Rattle.reckoning.specs.declared.data.PentadInForce.{PentadInForce}
+use Rattle.reckoning.specs.Answers.{PentadAnswer}
 use Rattle.reckoning.specs.Scope.{SystemInScope, SolarDayInScope}
 use Rattle.reckoning.specs.CommonYears.{common_year}
 use Rattle.reckoning.specs.Requests.{in_force_at, in_force_in, pentad_in_force}
@@ -51,7 +51,7 @@ pentad_outcome system r =
     (found_pentad system r system_inside (record { day = count_day c r; is_day = is; from = w.0; before = w.1 }))))
 
 -- There is no other answer that ends so.
-one_found : (system r : ℕ) (v w : PentadInForce) → O.PentadFound system r v → O.PentadFound system r w → v ≡ w
+one_found : (system r : ℕ) (v w : PentadAnswer) → O.PentadFound system r v → O.PentadFound system r w → v ≡ w
 one_found system r v w a b =
     let c = constants_of system in
     let ok = consistent system in
@@ -65,7 +65,7 @@ one_found system r v w a b =
     let pentad : v.pentad ≡ w.pentad = omega (arith, here.1, there.1) in
     λ j. record { refusal = refusal j; year = year j; pentad = pentad j }
 
-pub one_outcome : (system r : ℕ) (v w : PentadInForce) → O.PentadOutcome system r v → O.PentadOutcome system r w → v ≡ w
+pub one_outcome : (system r : ℕ) (v w : PentadAnswer) → O.PentadOutcome system r v → O.PentadOutcome system r w → v ≡ w
 one_outcome system r v w (O.PentadOutcome.system_refused a e) (O.PentadOutcome.system_refused b f) = e ∙ sym f
 one_outcome system r v w (O.PentadOutcome.system_refused a e) (O.PentadOutcome.day_refused s b f) = absurd (a s)
 one_outcome system r v w (O.PentadOutcome.system_refused a e) (O.PentadOutcome.found g) = absurd (a g.in_scope.system_inside)

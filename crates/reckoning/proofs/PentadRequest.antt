@@ -8,7 +8,6 @@ use Rattle.calendar.specs.Steps.{solstice_day}
 use Rattle.calendar.specs.ClosedForms.{pentad_on}
 use Rattle.calendar.proofs.PentadLaws.{year_from, year_before}
 use Rattle.reckoning.specs.declared.closed_forms.LastStep.{LastStep}
-use Rattle.reckoning.specs.declared.data.PentadInForce.{PentadInForce}
 use Rattle.reckoning.specs.CommonYears.{common_year, out_of_scope}
 use Rattle.reckoning.specs.LastSteps.{last_step}
 use Rattle.reckoning.specs.RefusalNumbers.{DAY}
@@ -17,12 +16,10 @@ use Rattle.reckoning.specs.WordBounds.{ConstantsFit}
 use Rattle.reckoning.proofs.YearOfDay.{before_years, is_its_day, day_outside, day_inside}
 
 -- A day before the epoch.
-pub pentad_before : (c : Constants) (r : ℕ) {early : Bool} {v : PentadInForce} → early ≡ before_epoch c r
-    → v ≡ none_in_force DAY
-    → early ≡ true
-    → v ≡ in_force_in c r
+pub pentad_before : (c : Constants) (r : ℕ) {early : Bool} → early ≡ before_epoch c r → early ≡ true
+    → none_in_force DAY ≡ in_force_in c r
 unfolding in_force_in
-pentad_before c r test e before = e ∙ simp (before_years (solstice_day c) c r (sym test ∙ before))
+pentad_before c r test before = simp (before_years (solstice_day c) c r (sym test ∙ before))
 
 -- One from the epoch on.
 module _ {c : Constants} (fit : ConstantsFit c) (r : ℕ) {early : Bool} (tested : early ≡ before_epoch c r)
@@ -40,11 +37,10 @@ module _ {c : Constants} (fit : ConstantsFit c) (r : ℕ) {early : Bool} (tested
     scope_is : b ≡ out_of_scope c (pentad_on c d / 72)
     scope_is = test ∙ ap (λ h. out_of_scope c (h / 72)) step_is
 
-    pub pentad_outside : {v : PentadInForce} → v ≡ none_in_force DAY → b ≡ true → v ≡ in_force_in c r
+    pub pentad_outside : b ≡ true → none_in_force DAY ≡ in_force_in c r
     unfolding in_force_in
-    pentad_outside e out =
-        e
-        ∙ simp (day_outside c fit.consistent.epoch_before (solstice_day c) r d (pentad_on c d / 72) (is_its_day c r (sym tested ∙ passed) day)
+    pentad_outside out =
+        simp (day_outside c fit.consistent.epoch_before (solstice_day c) r d (pentad_on c d / 72) (is_its_day c r (sym tested ∙ passed) day)
         (year_from c fit.consistent d)
         (year_before c fit.consistent d)
         (sym scope_is ∙ out))

@@ -3,7 +3,7 @@ use Prim.Native.Nat.{ℕ}
 use native.Mathlib.Omega.{arith}
 use Rattle.calendar.specs.Systems.{constants_of, years_elapsed}
 use Rattle.calendar.proofs.EachSystem.{each_system}
-use Rattle.reckoning.specs.WordBounds.{ConstantsFit, YearInRegister}
+use Rattle.reckoning.specs.WordBounds.{ConstantsFit, YearInRegister, YearsInRegister}
 use Rattle.reckoning.specs.Scope.{YearInScope}
 
 pub year_in_register : (system year : ℕ) → YearInScope year → YearInRegister (constants_of system) (years_elapsed (constants_of system) year)
@@ -12,3 +12,6 @@ year_in_register system year h =
 
 pub constants_fit : (system : ℕ) → ConstantsFit (constants_of system)
 constants_fit system = (year_in_register system 1 (omega arith)).constants_fit
+
+pub years_in_register : (system : ℕ) → YearsInRegister (constants_of system)
+years_in_register system = record { constants_fit = constants_fit system; in_register = year_in_register system }

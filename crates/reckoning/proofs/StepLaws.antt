@@ -1,6 +1,6 @@
 -- Equal steps of a year: the code's numbers fit, and what it answers.
 use Prim.Native.Nat.{ℕ, ◌+◌, ◌*◌, ◌^◌, ◌≤◌, ◌<◌}
-use mathlib.Core.Path.{◌≡◌, sym, ap, ◌∙◌}
+use mathlib.Core.Path.{◌≡◌, refl, sym, ap, ◌∙◌}
 use native.Mathlib.Nat.{mul-le-mul, mul-le-mul_right, mul-pos, lt_of_le_of_lt}
 use native.Mathlib.Omega.{arith}
 use mir.Syntax.{w64}
@@ -9,15 +9,19 @@ use Rattle.calendar.specs.declared.data.Constants.{Constants}
 use Rattle.calendar.specs.Steps.{solstice, DividesYear, moment}
 use Rattle.calendar.specs.Consistent.{Consistent}
 use Rattle.calendar.proofs.Steps.{steps_close, moments_rise, steps_in_year}
-use Rattle.reckoning.specs.declared.asked.Asked.{Asked}
-use Rattle.reckoning.specs.declared.data.Moment.{Moment}
+use Rattle.reckoning.specs.Answers.{MomentAnswer}
+use Rattle.reckoning.specs.declared.asked.Accepted.{Accepted}
+use Rattle.reckoning.specs.declared.refusal.Refusal.{Refusal}
 use Rattle.reckoning.specs.ComputedRefusals.{step_refusal}
 use Rattle.reckoning.specs.Divisions.{Division, qis, pentads}
-use Rattle.reckoning.specs.Asked.{asked_of}
-use Rattle.reckoning.specs.Requests.{answer_to, no_moment, step_in, step_of}
+use Rattle.reckoning.specs.Asked.{Asked, asked_of}
+use Rattle.reckoning.specs.RefusalNumbers.{number_of}
+use Rattle.reckoning.specs.Told.{accepted_as}
+use Rattle.reckoning.specs.Requests.{no_moment, step_in, step_of}
 use Rattle.reckoning.specs.WordBounds.{ConstantsFit, StepFits, LastStepFits, YearInRegister}
 use Rattle.reckoning.proofs.RefusalCases.{accepted_step}
-use Rattle.reckoning.proofs.AnswerUnless.{asked_in_register}
+use Rattle.reckoning.proofs.ToldCases.{number_not_0}
+use Rattle.reckoning.proofs.AnswerUnless.{refused, answered, asked_in_register}
 
 -- A step of a year within the register fits, where the next solstice does in those units.
 pub step_fits : {c : Constants} {n : ℕ} (s u i : ℕ) → YearInRegister c n → DividesYear c s u → 0 < s → 0 < u → u < 2 ^ 32
@@ -104,11 +108,18 @@ asked_fits division sound system year i {asked} e accepted =
     (sound.next_small asked.c asked.n r)
     (omega (arith, s.1, sound.last_inside))
 
--- What is answered to what is asked is the step.
-pub answers_step : (division : Division) (system year i : ℕ) {asked : Asked} {v : Moment}
-    → asked ≡ asked_of (step_refusal division.last system year i) system year
-    → v ≡ answer_to asked (step_in division.steps (division.units asked.c) i) no_moment
-    → v ≡ step_of division system year i
-unfolding step_of
-answers_step division system year i e is =
-    is ∙ ap (λ a. answer_to a (step_in division.steps (division.units a.c) i) no_moment) e
+-- What is answered to what is asked is the blank, refused, or else the step.
+module _ (division : Division) (system year i : ℕ) where
+  pub refuses_step : (r : Refusal) → asked_of (number_of r) system year ≡ asked_of (step_refusal division.last system year i) system year
+      → no_moment (number_of r) ≡ step_of division system year i
+  unfolding step_of
+  refuses_step r e =
+      refused (λ c n. step_in division.steps (division.units c) i c n) no_moment (asked_of (number_of r) system year) _ e (number_not_0 r)
+
+  pub answers_step : {asked : Accepted} {v : MomentAnswer}
+      → accepted_as asked ≡ asked_of (step_refusal division.last system year i) system year
+      → v ≡ step_in division.steps (division.units asked.c) i asked.c asked.n
+      → v ≡ step_of division system year i
+  unfolding step_of
+  answers_step {asked} e is =
+      is ∙ answered (λ c n. step_in division.steps (division.units c) i c n) no_moment (accepted_as asked) _ e refl

@@ -18,8 +18,12 @@ pub mod CommonYears
 pub mod LastSteps
 -- Months as the code has them.
 pub mod MonthSpans
+-- Answers as the papers have them.
+pub mod Answers
 -- What each request answers.
 pub mod Requests
+-- How what the code returns tells those answers.
+pub mod Told
 -- What the value of a year's months holds, in the paper's words.
 pub mod YearValue
 -- What the answers for a qi, a pentad and a day sheet hold.

@@ -6,17 +6,13 @@ use Rattle.calendar.specs.Systems.{constants_of, years_elapsed, IsRegisterDay}
 use Rattle.calendar.specs.Pentad.{InForce, InSolarYear}
 use Rattle.calendar.specs.Month.{month_head, InMonth, month_length}
 use Rattle.calendar.specs.Year.{Span, year_head, year_length, day_of_ordinal, MonthNumbered, LeapNumber}
-use Rattle.reckoning.specs.declared.data.Days.{Days}
-use Rattle.reckoning.specs.declared.data.Month.{Month}
-use Rattle.reckoning.specs.declared.data.OrdinalDay.{OrdinalDay}
-use Rattle.reckoning.specs.declared.data.Date.{Date}
-use Rattle.reckoning.specs.declared.data.PentadInForce.{PentadInForce}
+use Rattle.reckoning.specs.Answers.{DaysAnswer, MonthAnswer, OrdinalAnswer, DateAnswer, PentadAnswer}
 use Rattle.reckoning.specs.Scope.{SystemInScope, YearInScope, InScope, NoSuchMonth, NotLeap, DayInScope, SolarDayInScope}
 use Rattle.reckoning.specs.RefusalNumbers.{SYSTEM, YEAR, MONTH, DAY, LEAP}
 use Rattle.reckoning.specs.Requests.{no_days, no_ordinal_day, no_month, no_month_telling, no_date, none_in_force}
 
 -- The days of a year, answered: its head and its length.
-pub record DaysFound (system year : ℕ) (v : Days) : Type 0 where
+pub record DaysFound (system year : ℕ) (v : DaysAnswer) : Type 0 where
   pub in_scope : InScope system year
   pub span : Span (constants_of system) (years_elapsed (constants_of system) year)
   pub not_refused : v.refusal ≡ 0
@@ -24,13 +20,13 @@ pub record DaysFound (system year : ℕ) (v : Days) : Type 0 where
   pub length_is : v.length ≡ year_length span
 
 -- Refused SYSTEM, then YEAR; or answered.
-pub data DaysOutcome (system year : ℕ) (v : Days) : Type 0 where
+pub data DaysOutcome (system year : ℕ) (v : DaysAnswer) : Type 0 where
   system_refused : (SystemInScope system → ⊥) → v ≡ no_days SYSTEM → DaysOutcome system year v
   year_refused : SystemInScope system → (YearInScope year → ⊥) → v ≡ no_days YEAR → DaysOutcome system year v
   found : DaysFound system year v → DaysOutcome system year v
 
 -- A day of a year by its ordinal, answered: the day, its month by number and leap mark, and its place there.
-pub record OrdinalFound (system year ordinal : ℕ) (v : OrdinalDay) : Type 0 where
+pub record OrdinalFound (system year ordinal : ℕ) (v : OrdinalAnswer) : Type 0 where
   pub in_scope : InScope system year
   pub span : Span (constants_of system) (years_elapsed (constants_of system) year)
   pub inside : Inside 1 (year_length span) ordinal
@@ -42,7 +38,7 @@ pub record OrdinalFound (system year ordinal : ℕ) (v : OrdinalDay) : Type 0 wh
   pub place_is : v.place ≡ day_of_ordinal span ordinal - month_head (constants_of system) k + 1
 
 -- Refused SYSTEM, then YEAR, then DAY where the year has no such day; or answered.
-pub data OrdinalOutcome (system year ordinal : ℕ) (v : OrdinalDay) : Type 0 where
+pub data OrdinalOutcome (system year ordinal : ℕ) (v : OrdinalAnswer) : Type 0 where
   system_refused : (SystemInScope system → ⊥) → v ≡ no_ordinal_day SYSTEM → OrdinalOutcome system year ordinal v
   year_refused : SystemInScope system → (YearInScope year → ⊥) → v ≡ no_ordinal_day YEAR → OrdinalOutcome system year ordinal v
   day_refused : InScope system year
@@ -53,7 +49,7 @@ pub data OrdinalOutcome (system year ordinal : ℕ) (v : OrdinalDay) : Type 0 wh
   found : OrdinalFound system year ordinal v → OrdinalOutcome system year ordinal v
 
 -- One month, answered: its head and its length.
-pub record MonthFound (system year number leap : ℕ) (v : Month) : Type 0 where
+pub record MonthFound (system year number leap : ℕ) (v : MonthAnswer) : Type 0 where
   pub in_scope : InScope system year
   pub number_inside : Inside 1 12 number
   pub mark_inside : Inside 0 1 leap
@@ -65,7 +61,7 @@ pub record MonthFound (system year number leap : ℕ) (v : Month) : Type 0 where
   pub nothing_told : v.told ≡ 0
 
 -- Refused SYSTEM, then YEAR, then MONTH, then LEAP with the number of the year's leap month; or answered.
-pub data MonthOutcome (system year number leap : ℕ) (v : Month) : Type 0 where
+pub data MonthOutcome (system year number leap : ℕ) (v : MonthAnswer) : Type 0 where
   system_refused : (SystemInScope system → ⊥) → v ≡ no_month SYSTEM → MonthOutcome system year number leap v
   year_refused : SystemInScope system → (YearInScope year → ⊥) → v ≡ no_month YEAR → MonthOutcome system year number leap v
   month_refused : InScope system year
@@ -83,7 +79,7 @@ pub data MonthOutcome (system year number leap : ℕ) (v : Month) : Type 0 where
 
 -- The date of a register day, answered: a year in scope, the month that has the day, by number and leap mark, and the
 -- day's place in it.
-pub record DateFound (system r : ℕ) (v : Date) : Type 0 where
+pub record DateFound (system r : ℕ) (v : DateAnswer) : Type 0 where
   pub in_scope : InScope system v.year
   pub day_in_scope : DayInScope system r
   pub k : ℕ
@@ -93,14 +89,14 @@ pub record DateFound (system r : ℕ) (v : Date) : Type 0 where
   pub day_is : v.day ≡ day_in_scope.day - month_head (constants_of system) k + 1
 
 -- Refused SYSTEM, then DAY; or answered.
-pub data DateOutcome (system r : ℕ) (v : Date) : Type 0 where
+pub data DateOutcome (system r : ℕ) (v : DateAnswer) : Type 0 where
   system_refused : (SystemInScope system → ⊥) → v ≡ no_date SYSTEM → DateOutcome system r v
   day_refused : SystemInScope system → (DayInScope system r → ⊥) → v ≡ no_date DAY → DateOutcome system r v
   found : DateFound system r v → DateOutcome system r v
 
 -- The pentad in force at the end of a register day, answered: its year, a year in scope between whose solstice days the
 -- day lies, and its number.
-pub record PentadFound (system r : ℕ) (v : PentadInForce) : Type 0 where
+pub record PentadFound (system r : ℕ) (v : PentadAnswer) : Type 0 where
   pub in_scope : InScope system v.year
   pub day_in_scope : SolarDayInScope system r
   pub not_refused : v.refusal ≡ 0
@@ -108,7 +104,7 @@ pub record PentadFound (system r : ℕ) (v : PentadInForce) : Type 0 where
   pub in_force : InForce (constants_of system) day_in_scope.day (years_elapsed (constants_of system) v.year) v.pentad
 
 -- Refused SYSTEM, then DAY; or answered.
-pub data PentadOutcome (system r : ℕ) (v : PentadInForce) : Type 0 where
+pub data PentadOutcome (system r : ℕ) (v : PentadAnswer) : Type 0 where
   system_refused : (SystemInScope system → ⊥) → v ≡ none_in_force SYSTEM → PentadOutcome system r v
   day_refused : SystemInScope system → (SolarDayInScope system r → ⊥) → v ≡ none_in_force DAY → PentadOutcome system r v
   found : PentadFound system r v → PentadOutcome system r v

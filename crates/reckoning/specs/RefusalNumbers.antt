@@ -1,6 +1,8 @@
 -- The numbers of the refusals: paper 01, "Numbered refusals", and paper 02, Q-3, Q-4, Q-7 and Q-10 to Q-12. Each
 -- name says what is wrong, as in include/chiselbrow.h.
-use Rattle.std.specs.Prelude.{ℕ}
+use Rattle.std.specs.Prelude.{ℕ, Option, Some, None}
+use Rattle.reckoning.specs.declared.refusal.Refusal.{Refusal}
+use Rattle.reckoning.specs.declared.refusal.Refusal.TheVariants.{Short, Kind, Length, System, Year, Month, Day, Output, Step, NotLeap, Retired, Time}
 
 -- The input is too short to be a record.
 abbrev pub SHORT : ℕ
@@ -50,3 +52,38 @@ RETIRED = 11
 -- It is no time of the day.
 abbrev pub TIME : ℕ
 TIME = 12
+
+-- The number of each refusal,
+abbrev pub number_of : Refusal → ℕ
+number_of Short = SHORT
+number_of Kind = KIND
+number_of Length = LENGTH
+number_of System = SYSTEM
+number_of Year = YEAR
+number_of Month = MONTH
+number_of Day = DAY
+number_of Output = OUTPUT
+number_of Step = STEP
+number_of (NotLeap month) = LEAP
+number_of Retired = RETIRED
+number_of Time = TIME
+
+-- the number of a year's leap month, 0 where the year has none,
+abbrev pub number_or_0 : Option ℕ → ℕ
+number_or_0 None = 0
+number_or_0 (Some number) = number
+
+-- and what a refusal tells beside its own: with LEAP that number, otherwise 0.
+abbrev pub month_told : Refusal → ℕ
+month_told Short = 0
+month_told Kind = 0
+month_told Length = 0
+month_told System = 0
+month_told Year = 0
+month_told Month = 0
+month_told Day = 0
+month_told Output = 0
+month_told Step = 0
+month_told (NotLeap month) = number_or_0 month
+month_told Retired = 0
+month_told Time = 0

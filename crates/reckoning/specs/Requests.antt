@@ -9,20 +9,11 @@ use Rattle.calendar.specs.Steps.{moment, day_of, parts_of, units_of}
 use Rattle.calendar.specs.Month.{new_moon_remainder, month_head, none_held}
 use Rattle.calendar.specs.ClosedForms.{pentad_on, month_of_day, first_month, head_of_year, register_head, year_of_month, month_number, leap_mark, held_index, month_cited}
 use Rattle.calendar.specs.LeapMonth.{leap_number}
-use Rattle.reckoning.specs.declared.asked.Asked.{Asked}
-use Rattle.reckoning.specs.declared.data.Moment.{Moment}
-use Rattle.reckoning.specs.declared.data.PentadInForce.{PentadInForce}
-use Rattle.reckoning.specs.declared.data.Year.{Year}
-use Rattle.reckoning.specs.declared.data.Sheet.{Sheet}
-use Rattle.reckoning.specs.declared.data.Month.{Month}
-use Rattle.reckoning.specs.declared.data.YearHead.{YearHead}
-use Rattle.reckoning.specs.declared.data.Days.{Days}
-use Rattle.reckoning.specs.declared.data.OrdinalDay.{OrdinalDay}
-use Rattle.reckoning.specs.declared.data.Date.{Date}
 use Rattle.reckoning.specs.ComputedRefusals.{outside, no_such_system, out_of_years, year_refusal, step_refusal}
 use Rattle.reckoning.specs.ComputedRefusals.{month_wrong, leap_wrong, day_wrong, solar_day_wrong}
 use Rattle.reckoning.specs.RefusalNumbers.{SYSTEM, YEAR, MONTH, DAY, LEAP}
-use Rattle.reckoning.specs.Asked.{asked_of}
+use Rattle.reckoning.specs.Asked.{Asked, asked_of}
+use Rattle.reckoning.specs.Answers.{MomentAnswer, PentadAnswer, YearAnswer, SheetAnswer, MonthAnswer, YearHeadAnswer, DaysAnswer, OrdinalAnswer, DateAnswer}
 use Rattle.reckoning.specs.Divisions.{Division, qis, pentads}
 use Rattle.reckoning.specs.CommonYears.{common_year}
 use Rattle.reckoning.specs.Filled.{filled}
@@ -48,28 +39,28 @@ abbrev pub answer_of_year : {A : Type 0} → Constants → ℕ → (Constants �
 answer_of_year c year answer blank = cond (out_of_years year) (blank YEAR) (answer c (years_elapsed c year))
 
 -- A moment m, counted in units of which a part has u, told as register day, parts and units. Refused: zeros.
-abbrev pub moment_in : Constants → ℕ → ℕ → Moment
+abbrev pub moment_in : Constants → ℕ → ℕ → MomentAnswer
 moment_in c u m =
     record { refusal = 0; day = as_register_day (register_day c (day_of c u m)); parts = parts_of c u m; units = units_of u m }
 
-abbrev pub no_moment : ℕ → Moment
+abbrev pub no_moment : ℕ → MomentAnswer
 no_moment refusal = record { refusal = refusal; day = as_register_day 0; parts = 0; units = 0 }
 
 -- Step i of year n, of s equal ones.
-abbrev pub step_in : ℕ → ℕ → ℕ → Constants → ℕ → Moment
+abbrev pub step_in : ℕ → ℕ → ℕ → Constants → ℕ → MomentAnswer
 step_in s u i c n = moment_in c u (moment c s u n i)
 
 -- Step i of a year, by a division.
-unfoldable pub step_of : Division → ℕ → ℕ → ℕ → Moment
+unfoldable pub step_of : Division → ℕ → ℕ → ℕ → MomentAnswer
 step_of division system year i =
     answer_unless (step_refusal division.last system year i) system year
     (λ c n. step_in division.steps (division.units c) i c n)
     no_moment
 
-abbrev pub qi_of : ℕ → ℕ → ℕ → Moment
+abbrev pub qi_of : ℕ → ℕ → ℕ → MomentAnswer
 qi_of system year i = step_of qis system year i
 
-abbrev pub pentad_of : ℕ → ℕ → ℕ → Moment
+abbrev pub pentad_of : ℕ → ℕ → ℕ → MomentAnswer
 pentad_of system year p = step_of pentads system year p
 
 -- The months of year n in order: their heads with the next year's head after them, their numbers and leap marks, the
@@ -99,7 +90,7 @@ remainder_at c first i = new_moon_remainder c (first + i)
 abbrev pub held_at : Constants → ℕ → ℕ → ℕ
 held_at c first i = held_index c (first + i)
 
-unfoldable pub months_from : Constants → ℕ → ℕ → Year
+unfoldable pub months_from : Constants → ℕ → ℕ → YearAnswer
 months_from c first count =
     record {
       refusal = 0;
@@ -111,10 +102,10 @@ months_from c first count =
       held = filled (held_at c first) no_qi count;
     }
 
-abbrev pub year_in : Constants → ℕ → Year
+abbrev pub year_in : Constants → ℕ → YearAnswer
 year_in c n = months_from c (first_month c n) (first_month c (n + 1) - first_month c n)
 
-abbrev pub no_year : ℕ → Year
+abbrev pub no_year : ℕ → YearAnswer
 no_year refusal =
     record {
       refusal = refusal;
@@ -126,7 +117,7 @@ no_year refusal =
       held = no_qi;
     }
 
-unfoldable pub year_of : ℕ → ℕ → Year
+unfoldable pub year_of : ℕ → ℕ → YearAnswer
 year_of system year = answer_unless (year_refusal system year) system year year_in no_year
 
 -- The names of the days of year n, one to a day, and 255 past its end. Refused: 384 times 255.
@@ -136,43 +127,43 @@ no_names = replicate 384 255
 abbrev pub name_at : ℕ → ℕ → ℕ
 name_at head i = name_of (head + i)
 
-unfoldable pub sheet_in : Constants → ℕ → Sheet
+unfoldable pub sheet_in : Constants → ℕ → SheetAnswer
 sheet_in c n =
     let head = register_day c (head_of_year c n) in
     let next = register_day c (head_of_year c (n + 1)) in
     record { refusal = 0; names = filled (name_at head) no_names (next - head) }
 
-abbrev pub no_sheet : ℕ → Sheet
+abbrev pub no_sheet : ℕ → SheetAnswer
 no_sheet refusal = record { refusal = refusal; names = no_names }
 
-unfoldable pub sheet_of : ℕ → ℕ → Sheet
+unfoldable pub sheet_of : ℕ → ℕ → SheetAnswer
 sheet_of system year = answer_unless (year_refusal system year) system year sheet_in no_sheet
 
 -- The days of year n. Refused: zeros.
-abbrev pub days_in : Constants → ℕ → Days
+abbrev pub days_in : Constants → ℕ → DaysAnswer
 days_in c n =
     let head = register_day c (head_of_year c n) in
     record { refusal = 0; head = as_register_day head; length = register_day c (head_of_year c (n + 1)) - head }
 
-abbrev pub no_days : ℕ → Days
+abbrev pub no_days : ℕ → DaysAnswer
 no_days refusal = record { refusal = refusal; head = as_register_day 0; length = 0 }
 
-unfoldable pub days_of : ℕ → ℕ → Days
+unfoldable pub days_of : ℕ → ℕ → DaysAnswer
 days_of system year = answer_unless (year_refusal system year) system year days_in no_days
 
 -- The head of year n. Refused: zeros.
-abbrev pub year_head_in : Constants → ℕ → YearHead
+abbrev pub year_head_in : Constants → ℕ → YearHeadAnswer
 year_head_in c n = record { refusal = 0; day = register_head c n }
 
-abbrev pub no_year_head : ℕ → YearHead
+abbrev pub no_year_head : ℕ → YearHeadAnswer
 no_year_head refusal = record { refusal = refusal; day = as_register_day 0 }
 
-unfoldable pub year_head_of : ℕ → ℕ → YearHead
+unfoldable pub year_head_of : ℕ → ℕ → YearHeadAnswer
 year_head_of system year = answer_unless (year_refusal system year) system year year_head_in no_year_head
 
 -- The day of year n with an ordinal, from 1: its register day, its month's number and leap mark, and its place in the
 -- month; DAY where the year has no such day. Refused: zeros.
-abbrev pub ordinal_day_at : Constants → ℕ → OrdinalDay
+abbrev pub ordinal_day_at : Constants → ℕ → OrdinalAnswer
 ordinal_day_at c d =
     let k = month_of_day c d in
     record {
@@ -183,21 +174,21 @@ ordinal_day_at c d =
       place = d - month_head c k + 1;
     }
 
-abbrev pub no_ordinal_day : ℕ → OrdinalDay
+abbrev pub no_ordinal_day : ℕ → OrdinalAnswer
 no_ordinal_day refusal = record { refusal = refusal; day = as_register_day 0; month = 0; leap = 0; place = 0 }
 
-unfoldable pub ordinal_day_in : ℕ → Constants → ℕ → OrdinalDay
+unfoldable pub ordinal_day_in : ℕ → Constants → ℕ → OrdinalAnswer
 ordinal_day_in ordinal c n =
     cond (outside 1 (head_of_year c (n + 1) - head_of_year c n) ordinal)
     (no_ordinal_day DAY)
     (ordinal_day_at c (head_of_year c n + ordinal - 1))
 
-unfoldable pub ordinal_day_of : ℕ → ℕ → ℕ → OrdinalDay
+unfoldable pub ordinal_day_of : ℕ → ℕ → ℕ → OrdinalAnswer
 ordinal_day_of system year ordinal = answer_unless (year_refusal system year) system year (ordinal_day_in ordinal) no_ordinal_day
 
 -- The month of year n with a number and a leap mark; MONTH where the number is not 1 to 12 or the mark not 0 or 1, and
 -- then LEAP where that month is not leap. Refused: zeros, and with LEAP the number of the year's leap month.
-abbrev pub month_at : Constants → ℕ → Month
+abbrev pub month_at : Constants → ℕ → MonthAnswer
 month_at c k =
     record {
       refusal = 0;
@@ -206,13 +197,13 @@ month_at c k =
       told = 0;
     }
 
-abbrev pub no_month_telling : ℕ → ℕ → Month
+abbrev pub no_month_telling : ℕ → ℕ → MonthAnswer
 no_month_telling refusal told = record { refusal = refusal; head = as_register_day 0; length = 0; told = told }
 
-abbrev pub no_month : ℕ → Month
+abbrev pub no_month : ℕ → MonthAnswer
 no_month refusal = no_month_telling refusal 0
 
-unfoldable pub month_in : Constants → ℕ → ℕ → ℕ → ℕ → Month
+unfoldable pub month_in : Constants → ℕ → ℕ → ℕ → ℕ → MonthAnswer
 month_in c n number leap told =
     cond (month_wrong number leap)
     (no_month MONTH)
@@ -221,19 +212,19 @@ month_in c n number leap told =
     (month_at c (month_cited c n number leap)))
 
 -- The same with nothing told.
-abbrev pub month_silent : ℕ → ℕ → Constants → ℕ → Month
+abbrev pub month_silent : ℕ → ℕ → Constants → ℕ → MonthAnswer
 month_silent number leap c n = month_in c n number leap 0
 
 -- What LEAP tells is the number of the year's leap month.
-abbrev pub month_telling : ℕ → ℕ → Constants → ℕ → Month
+abbrev pub month_telling : ℕ → ℕ → Constants → ℕ → MonthAnswer
 month_telling number leap c n = month_in c n number leap (leap_number c n)
 
-unfoldable pub month_of : ℕ → ℕ → ℕ → ℕ → Month
+unfoldable pub month_of : ℕ → ℕ → ℕ → ℕ → MonthAnswer
 month_of system year number leap = answer_unless (year_refusal system year) system year (month_telling number leap) no_month
 
 -- The date of a register day: its year, its month's number and leap mark, its place in the month; DAY outside years 1
 -- to 3000. Refused: zeros.
-abbrev pub date_at : Constants → ℕ → Date
+abbrev pub date_at : Constants → ℕ → DateAnswer
 date_at c d =
     let k = month_of_day c d in
     record {
@@ -244,25 +235,25 @@ date_at c d =
       day = d - month_head c k + 1;
     }
 
-abbrev pub no_date : ℕ → Date
+abbrev pub no_date : ℕ → DateAnswer
 no_date refusal = record { refusal = refusal; year = 0; month = 0; leap = 0; day = 0 }
 
-unfoldable pub date_in : Constants → ℕ → Date
+unfoldable pub date_in : Constants → ℕ → DateAnswer
 date_in c r = cond (day_wrong c r) (no_date DAY) (date_at c (count_day c r))
 
-unfoldable pub date_of : ℕ → ℕ → Date
+unfoldable pub date_of : ℕ → ℕ → DateAnswer
 date_of system r = answer_of_system system (λ c. date_in c r) no_date
 
 -- The pentad in force at the end of a register day, and its year, counted from solstice to solstice; DAY outside years
 -- 1 to 3000 so counted. Refused: zeros.
-abbrev pub in_force_at : Constants → ℕ → PentadInForce
+abbrev pub in_force_at : Constants → ℕ → PentadAnswer
 in_force_at c d = record { refusal = 0; year = common_year c (pentad_on c d / 72); pentad = pentad_on c d % 72 }
 
-abbrev pub none_in_force : ℕ → PentadInForce
+abbrev pub none_in_force : ℕ → PentadAnswer
 none_in_force refusal = record { refusal = refusal; year = 0; pentad = 0 }
 
-unfoldable pub in_force_in : Constants → ℕ → PentadInForce
+unfoldable pub in_force_in : Constants → ℕ → PentadAnswer
 in_force_in c r = cond (solar_day_wrong c r) (none_in_force DAY) (in_force_at c (count_day c r))
 
-unfoldable pub pentad_in_force : ℕ → ℕ → PentadInForce
+unfoldable pub pentad_in_force : ℕ → ℕ → PentadAnswer
 pentad_in_force system r = answer_of_system system (λ c. in_force_in c r) none_in_force

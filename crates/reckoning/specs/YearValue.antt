@@ -6,28 +6,28 @@ use Rattle.calendar.specs.Systems.{IsRegisterDay}
 use Rattle.calendar.specs.Steps.{day_of}
 use Rattle.calendar.specs.Month.{new_moon_remainder, month_head, middle_qi, number_of, Bears, Marked, none_held, HeldTold, indexes_told}
 use Rattle.calendar.specs.Year.{Span, month_count, next_head}
-use Rattle.reckoning.specs.declared.data.Year.{Year}
+use Rattle.reckoning.specs.Answers.{YearAnswer}
 use Rattle.reckoning.specs.Requests.{as_register_day}
 
 -- The head, number, leap mark, remainder and middle qi held at place i, from 0.
-abbrev pub head_in : Year → ℕ → ℕ
+abbrev pub head_in : YearAnswer → ℕ → ℕ
 head_in v i = (get_or v.heads i (as_register_day 0)).0
 
-abbrev pub number_in : Year → ℕ → ℕ
+abbrev pub number_in : YearAnswer → ℕ → ℕ
 number_in v i = get_or v.numbers i 0
 
-abbrev pub leap_in : Year → ℕ → ℕ
+abbrev pub leap_in : YearAnswer → ℕ → ℕ
 leap_in v i = get_or v.leaps i 0
 
-abbrev pub remainder_in : Year → ℕ → ℕ
+abbrev pub remainder_in : YearAnswer → ℕ → ℕ
 remainder_in v i = get_or v.remainders i 0
 
-abbrev pub held_in : Year → ℕ → ℕ
+abbrev pub held_in : YearAnswer → ℕ → ℕ
 held_in v i = get_or v.held i 0
 
 -- The value holds the months of year n by the reckoning: their count, in order each head, number, leap mark, new moon's
 -- remainder and middle qi held, then the next year's head; in unused places 0, and the mark that none is held.
-pub record ListsMonths (c : Constants) (n : ℕ) (v : Year) : Type 0 where
+pub record ListsMonths (c : Constants) (n : ℕ) (v : YearAnswer) : Type 0 where
   pub accepted : v.refusal ≡ 0
   pub places : (length v.heads ≡ 14)
       × (length v.numbers ≡ 14)
@@ -50,7 +50,7 @@ pub record ListsMonths (c : Constants) (n : ℕ) (v : Year) : Type 0 where
 
 -- What demand 3 says of months, said of the value: twelve or thirteen months of 29 or 30 days tile the year's days;
 -- of twelve none has the leap mark, and of thirteen exactly one does.
-pub record Tiled (v : Year) : Type 0 where
+pub record Tiled (v : YearAnswer) : Type 0 where
   pub months : (v.count ≡ 12) ⊎ (v.count ≡ 13)
   pub days : (i : ℕ) → i < v.count → (head_in v (i + 1) ≡ head_in v i + 29) ⊎ (head_in v (i + 1) ≡ head_in v i + 30)
   pub tile : (r : ℕ) → head_in v 0 ≤ r → r < head_in v v.count
@@ -59,7 +59,7 @@ pub record Tiled (v : Year) : Type 0 where
   pub thirteen : v.count ≡ 13 → ExactlyOne (λ i. (i < 13) × (leap_in v i ≡ 1))
 
 -- What paper 02, Q-9, says of the value of year n: over its months, marks, numbers and heads agree.
-pub record MonthsAgree (c : Constants) (n : ℕ) (v : Year) : Type 0 where
+pub record MonthsAgree (c : Constants) (n : ℕ) (v : YearAnswer) : Type 0 where
   -- leap exactly when none is held
   pub leap_just_when_none : (i : ℕ) → i < v.count → (leap_in v i ≡ 1) ↔ (held_in v i ≡ none_held)
   -- otherwise an index is told, 0 to 11, and the number is that of the index; a leap month has that of the month before

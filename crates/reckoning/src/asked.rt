@@ -3,22 +3,23 @@ ghost use Rattle.std.specs.Prelude.{◌≡◌};
 ghost use Rattle.calendar.specs.Systems.{constants_of};
 ghost use Rattle.reckoning.specs.Asked.{asked_of};
 ghost use Rattle.reckoning.specs.ComputedRefusals.{year_refusal, step_refusal};
+ghost use Rattle.reckoning.specs.Told.{accepted_as, told_asked};
 
 use crate::closed_forms::years_elapsed;
 use crate::refusal;
+use crate::refusal::Refusal;
 use calendar::data::Constants;
 use calendar::systems::{guantian, jingchu, jiyuan};
 
-// Its refusal number, the system's constants and the years elapsed.
+// Of a request that is not refused: the system's constants and the years elapsed.
 #[derive(Clone, Copy)]
-pub(crate) struct Asked {
-    pub refusal: u8,
+pub(crate) struct Accepted {
     pub c: Constants,
     pub n: u64,
 }
 
-// The constants that a system's number picks. One that is no system's picks the first system's, and its request is
-// refused.
+// The constants that a system's number picks. One that is no system's picks the first system's; its request is refused
+// before.
 fn constants_of(system: u32) -> Constants
     ensures { result ≡ constants_of system }
 {
@@ -29,26 +30,24 @@ fn constants_of(system: u32) -> Constants
     }
 }
 
-fn ask(refusal: u8, system: u32, year: u32) -> Asked
-    ensures { result ≡ asked_of refusal system year }
+fn accept(system: u32, year: u32) -> Accepted
+    ensures { accepted_as result ≡ asked_of 0 system year }
 {
     let c = constants_of(system);
     let n = years_elapsed(c, year);
-    Asked {
-        refusal: refusal,
-        c: c,
-        n: n,
-    }
+    Accepted { c: c, n: n }
 }
 
-pub(crate) fn of_year(system: u32, year: u32) -> Asked
-    ensures { result ≡ asked_of (year_refusal system year) system year }
+pub(crate) fn of_year(system: u32, year: u32) -> Result<Accepted, Refusal>
+    ensures { told_asked system year result ≡ asked_of (year_refusal system year) system year }
 {
-    ask(refusal::of_year(system, year), system, year)
+    refusal::of_year(system, year)?;
+    Ok(accept(system, year))
 }
 
-pub(crate) fn of_step(system: u32, year: u32, most: u32, i: u32) -> Asked
-    ensures { result ≡ asked_of (step_refusal most system year i) system year }
+pub(crate) fn of_step(system: u32, year: u32, most: u32, i: u32) -> Result<Accepted, Refusal>
+    ensures { told_asked system year result ≡ asked_of (step_refusal most system year i) system year }
 {
-    ask(refusal::of_step(system, year, most, i), system, year)
+    refusal::of_step(system, year, most, i)?;
+    Ok(accept(system, year))
 }

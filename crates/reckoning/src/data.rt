@@ -1,11 +1,10 @@
-// What the requests answer. Each carries its refusal number, 0 when the request was answered.
+// What the requests answer.
 use calendar::data::RegisterDay;
 
 // The moment of a qi or of a pentad: its day, and the parts and units left over of it. Units are a qi's small units,
 // and of a pentad those in which its fraction is told.
 #[derive(Clone, Copy)]
 pub struct Moment {
-    pub refusal: u8,
     pub day: RegisterDay,
     pub parts: u32,
     pub units: u32,
@@ -14,7 +13,6 @@ pub struct Moment {
 // The pentad in force at the end of a day, by number, and its year, counted from solstice to solstice.
 #[derive(Clone, Copy)]
 pub struct PentadInForce {
-    pub refusal: u8,
     pub year: u32,
     pub pentad: u32,
 }
@@ -22,13 +20,12 @@ pub struct PentadInForce {
 // The mark that a month holds no middle qi.
 pub const NONE_HELD: u8 = 255;
 
-// The months of a year: `count` of them, 12 or 13, or 0 when refused. Their heads stand in order, the next year's head
+// The months of a year: `count` of them, 12 or 13. Their heads stand in order, the next year's head
 // after them; beside each month's head its number and leap mark, the remainder of its new moon in lunar parts, and the
 // index, 0 to 11, of the middle qi that it holds, or NONE_HELD. Unused places are 0, in `held` NONE_HELD, and so is what
 // stands beside the next year's head.
 #[derive(Clone, Copy)]
 pub struct Year {
-    pub refusal: u8,
     pub count: u8,
     pub heads: [RegisterDay; 14],
     pub numbers: [u8; 14],
@@ -40,31 +37,19 @@ pub struct Year {
 // The names of a year's days, in order; 255 past its end.
 #[derive(Clone, Copy)]
 pub struct Sheet {
-    pub refusal: u8,
     pub names: [u8; 384],
 }
 
-// A month: its first day and how many days it has. Refused LEAP, and only then, `told` tells the number of the
-// year's leap month, 0 if the year has none; otherwise it is 0.
+// A month: its first day and how many days it has.
 #[derive(Clone, Copy)]
 pub struct Month {
-    pub refusal: u8,
     pub head: RegisterDay,
     pub length: u8,
-    pub told: u8,
-}
-
-// The head of a year.
-#[derive(Clone, Copy)]
-pub struct YearHead {
-    pub refusal: u8,
-    pub day: RegisterDay,
 }
 
 // The days of a year: the first, and how many.
 #[derive(Clone, Copy)]
 pub struct Days {
-    pub refusal: u8,
     pub head: RegisterDay,
     pub length: u16,
 }
@@ -72,7 +57,6 @@ pub struct Days {
 // A day of a year by its ordinal: the day, its month's number and leap mark, and its place in the month.
 #[derive(Clone, Copy)]
 pub struct OrdinalDay {
-    pub refusal: u8,
     pub day: RegisterDay,
     pub month: u8,
     pub leap: u8,
@@ -83,7 +67,6 @@ pub struct OrdinalDay {
 // packed into one word and taken apart again.
 #[derive(Clone, Copy)]
 pub struct Date {
-    pub refusal: u8,
     pub year: u32,
     pub month: u8,
     pub leap: u8,

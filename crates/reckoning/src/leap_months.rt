@@ -2,6 +2,7 @@
 ghost use Rattle.std.specs.Prelude.{◌≡◌, ◌+◌, ◌-◌, ◌<◌};
 ghost use Rattle.calendar.specs.Systems.{years_elapsed};
 ghost use Rattle.calendar.specs.LeapMonth.{leap_number, no_leap_up_to, LeapBetween};
+ghost use Rattle.reckoning.specs.RefusalNumbers.{number_or_0};
 ghost use Rattle.reckoning.specs.WordBounds.{FirstMonthFits, YearInRegister};
 
 use crate::closed_forms::{day_of_qi, month_head, number_of_qi, years_elapsed};
@@ -54,21 +55,21 @@ fn last_before_leap(c: Constants, n: u64) -> u64
     b.low
 }
 
-// The number of year n's leap month; 0 where it has none.
-fn number(c: Constants, n: u64) -> u8
+// The number of year n's leap month, if it has one.
+fn number(c: Constants, n: u64) -> Option<u8>
     requires { YearInRegister c n }
-    ensures { result ≡ leap_number c n }
+    ensures { number_or_0 result ≡ leap_number c n }
 {
     let last = last_before_leap(c, n);
     if 12 <= last {
-        return 0;
+        return None;
     }
-    number_of_qi(last)
+    Some(number_of_qi(last))
 }
 
-pub(crate) fn number_of_common_year(c: Constants, year: u32) -> u8
+pub(crate) fn number_of_common_year(c: Constants, year: u32) -> Option<u8>
     requires { YearInRegister c (years_elapsed c year) }
-    ensures { result ≡ leap_number c (years_elapsed c year) }
+    ensures { number_or_0 result ≡ leap_number c (years_elapsed c year) }
 {
     number(c, years_elapsed(c, year))
 }

@@ -2,14 +2,14 @@
 ghost use Rattle.std.specs.Prelude.{◌≡◌};
 ghost use Rattle.calendar.specs.Systems.{constants_of, years_elapsed};
 ghost use Rattle.reckoning.specs.MonthSpans.{month_span};
-ghost use Rattle.reckoning.specs.Requests.{answer_of_year, head_at, months_from, year_in, month_at, no_month_telling, no_month, month_in, month_silent};
+ghost use Rattle.reckoning.specs.Requests.{answer_of_year, head_at, months_from, year_in, month_at, no_month, month_in, month_silent};
+ghost use Rattle.reckoning.specs.Told.{year_answered, month_answered, told_month};
 ghost use Rattle.reckoning.specs.WordBounds.{InRegister, SpanFits, MonthsInRegister, YearInRegister, YearsInRegister};
 
 use crate::closed_forms::{day_of_qi, held_by, number_of_qi, register_day, years_elapsed};
 use crate::data::{Month, NONE_HELD, Year};
 use crate::month_spans::{MonthSpan, after, last_qi, of_qi, remainder};
-use crate::refusal::{out_of_years, outside};
-use crate::refusal_numbers::{LEAP, MONTH, YEAR};
+use crate::refusal::{Refusal, out_of_years, outside};
 use crate::year_heads::first_month;
 use calendar::data::{Constants, RegisterDay};
 
@@ -19,7 +19,7 @@ fn list(c: Constants, first: MonthSpan, count: usize, closing: RegisterDay) -> Y
     requires { (first ≡ month_span c first.month)
         × (closing ≡ head_at c first.month count)
         × MonthsInRegister c first.month count }
-    ensures { result ≡ months_from c first.month count }
+    ensures { year_answered result ≡ months_from c first.month count }
 {
     let mut heads = [RegisterDay(0); 14];
     let mut numbers = [0u8; 14];
@@ -41,7 +41,6 @@ fn list(c: Constants, first: MonthSpan, count: usize, closing: RegisterDay) -> Y
     }
     heads[count] = closing;
     Year {
-        refusal: 0,
         count: count as u8,
         heads: heads,
         numbers: numbers,
@@ -54,7 +53,7 @@ fn list(c: Constants, first: MonthSpan, count: usize, closing: RegisterDay) -> Y
 // The months of a year.
 pub(crate) fn of_year(system: u32, c: Constants, year: u32) -> Year
     requires { (c ≡ constants_of system) × YearInRegister c (years_elapsed c year) }
-    ensures { result ≡ year_in c (years_elapsed c year) }
+    ensures { year_answered result ≡ year_in c (years_elapsed c year) }
 {
     let first = first_month(system, c, year);
     let next = first_month(system, c, year + 1);
@@ -65,69 +64,54 @@ pub(crate) fn of_year(system: u32, c: Constants, year: u32) -> Year
 // Month m.
 fn at(c: Constants, m: MonthSpan) -> Month
     requires { SpanFits c m × InRegister c m.head }
-    ensures { result ≡ month_at c m.month }
+    ensures { month_answered result ≡ month_at c m.month }
 {
     let length = (m.next - m.head) as u8;
     Month {
-        refusal: 0,
         head: register_day(c, m.head),
         length: length,
-        told: 0,
     }
-}
-
-// No month; with LEAP, the number of the year's leap month is told.
-pub(crate) fn none_telling(refusal: u8, told: u8) -> Month
-    ensures { result ≡ no_month_telling refusal told }
-{
-    Month {
-        refusal: refusal,
-        head: RegisterDay(0),
-        length: 0,
-        told: told,
-    }
-}
-
-pub(crate) fn none(refusal: u8) -> Month
-    ensures { result ≡ no_month refusal }
-{
-    none_telling(refusal, 0)
 }
 
 // The month of year n with a number and a leap mark. Which month is leap, if not this one, `leap_months` finds: with
 // that search in it, this function would be too long for the compiler to copy it to each system's constants.
 #[inline(always)]
-fn month_of_year(c: Constants, n: u64, number: u32, leap: u32) -> Month
+fn month_of_year(c: Constants, n: u64, number: u32, leap: u32) -> Result<Month, Refusal>
     requires { YearInRegister c n }
-    ensures { result ≡ month_in c n number leap 0 }
+    ensures { told_month result ≡ month_in c n number leap 0 }
 {
     if outside(1, 12, number) {
-        return none(MONTH);
+        return Err(Refusal::Month);
     }
     let g = 12 * n + (number as u64 + 1) % 12;
     let m = of_qi(c, g);
     if leap == 0 {
-        return at(c, m);
+        return Ok(at(c, m));
     }
     // Marks are nearly all 0, so that only another is tested.
     if outside(0, 1, leap) {
-        return none(MONTH);
+        return Err(Refusal::Month);
     }
     let next = after(c, m);
     // Not leap: it holds the next middle qi.
     if day_of_qi(c, g + 1) < next.next {
-        return none(LEAP);
+        return Err(Refusal::NotLeap(None));
     }
-    at(c, next)
+    Ok(at(c, next))
 }
 
 #[inline(always)]
-pub(crate) fn of_common_year(c: Constants, year: u32, number: u32, leap: u32) -> Month
+pub(crate) fn of_common_year(
+    c: Constants,
+    year: u32,
+    number: u32,
+    leap: u32,
+) -> Result<Month, Refusal>
     requires { YearsInRegister c }
-    ensures { result ≡ answer_of_year c year (month_silent number leap) no_month }
+    ensures { told_month result ≡ answer_of_year c year (month_silent number leap) no_month }
 {
     if out_of_years(year) {
-        return none(YEAR);
+        return Err(Refusal::Year);
     }
     month_of_year(c, years_elapsed(c, year), number, leap)
 }

@@ -3,6 +3,7 @@ ghost use Rattle.std.specs.Prelude.{◌≡◌, ◌≤◌, ◌<◌, ◌^◌};
 ghost use Rattle.calendar.specs.Systems.{constants_of, years_elapsed};
 ghost use Rattle.calendar.specs.SixtyDayName.{name_of};
 ghost use Rattle.reckoning.specs.Requests.{sheet_in, name_at, no_names};
+ghost use Rattle.reckoning.specs.Told.{sheet_answered};
 ghost use Rattle.reckoning.specs.Filled.{filled};
 ghost use Rattle.reckoning.specs.WordBounds.{YearInRegister};
 
@@ -36,12 +37,9 @@ fn names_from(head: RegisterDay, length: usize) -> [u8; 384]
 // The day sheet of a year.
 pub(crate) fn of_year(system: u32, c: Constants, year: u32) -> Sheet
     requires { (c ≡ constants_of system) × YearInRegister c (years_elapsed c year) }
-    ensures { result ≡ sheet_in c (years_elapsed c year) }
+    ensures { sheet_answered result ≡ sheet_in c (years_elapsed c year) }
 {
     let days = year_days::of_year(system, c, year);
     let names = names_from(days.head, days.length as usize);
-    Sheet {
-        refusal: 0,
-        names: names,
-    }
+    Sheet { names: names }
 }

@@ -2,6 +2,7 @@
 ghost use Rattle.std.specs.Prelude.{◌≡◌, ◌-◌, ◌≤◌};
 ghost use Rattle.calendar.specs.Systems.{constants_of, years_elapsed};
 ghost use Rattle.reckoning.specs.Requests.{days_in};
+ghost use Rattle.reckoning.specs.Told.{days_answered};
 ghost use Rattle.reckoning.specs.WordBounds.{YearInRegister};
 
 use crate::data::Days;
@@ -11,10 +12,9 @@ use calendar::data::{Constants, RegisterDay};
 // The days from a year's head to the next year's.
 fn between(head: RegisterDay, next: RegisterDay) -> Days
     requires { (head.0 ≤ next.0) × (next.0 - head.0 ≤ 384) }
-    ensures { result ≡ record { refusal = 0; head = head; length = next.0 - head.0 } }
+    ensures { result ≡ record { head = head; length = next.0 - head.0 } }
 {
     Days {
-        refusal: 0,
         head: head,
         length: (next.0 - head.0) as u16,
     }
@@ -23,7 +23,7 @@ fn between(head: RegisterDay, next: RegisterDay) -> Days
 // The days of a year.
 pub(crate) fn of_year(system: u32, c: Constants, year: u32) -> Days
     requires { (c ≡ constants_of system) × YearInRegister c (years_elapsed c year) }
-    ensures { result ≡ days_in c (years_elapsed c year) }
+    ensures { days_answered result ≡ days_in c (years_elapsed c year) }
 {
     let head = year_heads::of_year(system, c, year);
     let next = year_heads::of_year(system, c, year + 1);

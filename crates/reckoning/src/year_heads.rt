@@ -5,13 +5,12 @@ ghost use Rattle.calendar.specs.Month.{month_head};
 ghost use Rattle.calendar.specs.ClosedForms.{month_of_day, first_month, register_head};
 ghost use Rattle.reckoning.specs.MonthSpans.{month_span};
 ghost use Rattle.reckoning.specs.Requests.{answer_of_year, year_head_in, no_year_head};
+ghost use Rattle.reckoning.specs.Told.{told_year_head};
 ghost use Rattle.reckoning.specs.WordBounds.{ConstantsFit, HeadInRegister, YearsInRegister};
 
 use crate::closed_forms::{count_day, register_day, years_elapsed};
-use crate::data::YearHead;
 use crate::month_spans::{MonthSpan, first_of_year, of_day};
-use crate::refusal::out_of_years;
-use crate::refusal_numbers::YEAR;
+use crate::refusal::{Refusal, out_of_years};
 use calendar::data::{Constants, RegisterDay};
 use printed_heads::Printed;
 
@@ -24,27 +23,15 @@ pub(crate) fn reckoned(c: Constants, year: u32) -> RegisterDay
     register_day(c, first.head)
 }
 
-pub(crate) fn none(refusal: u8) -> YearHead
-    ensures { result ≡ no_year_head refusal }
-{
-    YearHead {
-        refusal: refusal,
-        day: RegisterDay(0),
-    }
-}
-
-// The head of a year, reckoned; refused YEAR outside years 1 to 3000.
-pub(crate) fn of_common_year(c: Constants, year: u32) -> YearHead
+// The head of a year, reckoned; refused Year outside years 1 to 3000.
+pub(crate) fn of_common_year(c: Constants, year: u32) -> Result<RegisterDay, Refusal>
     requires { YearsInRegister c }
-    ensures { result ≡ answer_of_year c year year_head_in no_year_head }
+    ensures { told_year_head result ≡ answer_of_year c year year_head_in no_year_head }
 {
     if out_of_years(year) {
-        return none(YEAR);
+        return Err(Refusal::Year);
     }
-    YearHead {
-        refusal: 0,
-        day: reckoned(c, year),
-    }
+    Ok(reckoned(c, year))
 }
 
 // The register day of a year's head, as it is printed or else reckoned.

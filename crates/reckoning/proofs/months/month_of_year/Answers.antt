@@ -6,7 +6,7 @@ use Rattle.reckoning.proofs.MonthRequest.{ordinary_fits, ordinary_in_register, n
 use Rattle.reckoning.proofs.months.month_of_year.Goals as goal
 
 pub returns-then-outside : goal.returns-then-outside
-returns-then-outside c = c.none.ensures ∙ number_wrong _ _ _ _ 0 (sym c.outside.ensures ∙ c.if-outside.true)
+returns-then-outside c = number_wrong _ _ _ _ 0 (sym c.outside.ensures ∙ c.if-outside.true)
 
 pub at-requires : goal.at-requires
 at-requires c = search (ordinary_fits, ordinary_in_register)
@@ -20,7 +20,7 @@ returns-then-leap-eq0 c =
 pub returns-then-outside-2 : goal.returns-then-outside-2
 returns-then-outside-2 c =
     let mark_outside = sym c.outside-2.ensures ∙ c.if-outside-2.true in
-    c.none-then-outside-2.ensures ∙ mark_wrong _ _ _ _ 0 ((sym c.outside.ensures ∙ c.if-outside.false)) mark_outside
+    mark_wrong _ _ _ _ 0 ((sym c.outside.ensures ∙ c.if-outside.false)) mark_outside
 
 pub after-next-requires : goal.after-next-requires
 after-next-requires c = search ordinary_fits
@@ -28,8 +28,7 @@ after-next-requires c = search ordinary_fits
 pub returns-then-day_of_qi-next : goal.returns-then-day_of_qi-next
 returns-then-day_of_qi-next c =
     let lacks = none_follows c.requires c.args.number c.of_qi-m.ensures c.after-next.ensures c.day_of_qi.ensures c.if-day_of_qi-next.true in
-    c.none-then-day_of_qi-next.ensures
-    ∙ leap_lacks _ _ _ _ 0 ((sym c.outside.ensures ∙ c.if-outside.false)) ((sym c.outside-2.ensures ∙ c.if-outside-2.false)) c.if-leap-eq0.false lacks
+    leap_lacks _ _ _ _ 0 ((sym c.outside.ensures ∙ c.if-outside.false)) ((sym c.outside-2.ensures ∙ c.if-outside-2.false)) c.if-leap-eq0.false lacks
 
 pub at-requires-2 : goal.at-requires-2
 at-requires-2 c = search (next_fits, next_in_register)

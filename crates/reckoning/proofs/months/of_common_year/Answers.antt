@@ -7,8 +7,7 @@ use Rattle.reckoning.proofs.months.of_common_year.Goals as goal
 pub returns-then-out_of_years : goal.returns-then-out_of_years
 returns-then-out_of_years c =
     let args = c.args in
-    c.none.ensures
-    ∙ refused_in_system (month_silent args.number args.leap) no_month args.c args.year c.out_of_years.ensures c.if-out_of_years.true
+    refused_in_system (month_silent args.number args.leap) no_month args.c args.year c.out_of_years.ensures c.if-out_of_years.true
 
 pub month_of_year-requires : goal.month_of_year-requires
 month_of_year-requires c =

@@ -22,7 +22,7 @@ overflow_sub-j c =
 pub returns-then-j-ge12 : goal.returns-then-j-ge12
 returns-then-j-ge12 c =
     let past = ordinal_past ((subst (YearInRegister c.args.c) (sym c.years_elapsed-n.ensures) c.requires.0)) c.requires.2 ((let pre = c.requires in c.count_day.ensures ∙ count_day_lem (head_of pre.0) pre.1 ∙ ap (head_of_year c.args.c) (sym c.years_elapsed-n.ensures))) c.of_day-m.ensures c.last_qi-last.ensures in
-    c.none.ensures ∙ past c.if-j-ge12.true ∙ (ap (ordinal_day_in c.args.ordinal.0 c.args.c) c.years_elapsed-n.ensures)
+    past c.if-j-ge12.true ∙ (ap (ordinal_day_in c.args.ordinal.0 c.args.c) c.years_elapsed-n.ensures)
 
 pub overflow_sub-place : goal.overflow_sub-place
 overflow_sub-place c = search place_from

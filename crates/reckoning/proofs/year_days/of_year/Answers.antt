@@ -1,5 +1,6 @@
-use mathlib.Core.Path.{◌∙◌}
+use mathlib.Core.Path.{ap, ◌∙◌}
 use Rattle.calendar.specs.ClosedForms.{register_head}
+use Rattle.reckoning.specs.Told.{days_answered}
 use Rattle.reckoning.proofs.HeadLaws.{head_of, head_of_next, told_of_next, days_between, days_of_lem}
 use Rattle.reckoning.proofs.year_days.of_year.Goals as goal
 
@@ -14,4 +15,4 @@ between-requires c = days_between c.requires.1 c.of_year-head.ensures ((told_of_
 
 pub returns : goal.returns
 returns c =
-    c.between.ensures ∙ days_of_lem c.requires.1 c.of_year-head.ensures ((told_of_next c.args.year c.requires.1 (register_head c.args.c) c.of_year-next.ensures))
+    ap days_answered c.between.ensures ∙ days_of_lem c.requires.1 c.of_year-head.ensures ((told_of_next c.args.year c.requires.1 (register_head c.args.c) c.of_year-next.ensures))

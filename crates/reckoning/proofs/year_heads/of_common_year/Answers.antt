@@ -1,5 +1,6 @@
 use mathlib.Core.Path.{ap, ◌∙◌}
 use Rattle.reckoning.specs.Requests.{year_head_in, no_year_head}
+use Rattle.reckoning.specs.Told.{year_head_answered}
 use Rattle.reckoning.proofs.AnswerUnless.{refused_in_system, answered_in_system, year_tested}
 use Rattle.reckoning.proofs.HeadLaws.{head_of}
 use Rattle.reckoning.proofs.year_heads.of_common_year.Goals as goal
@@ -7,7 +8,7 @@ use Rattle.reckoning.proofs.year_heads.of_common_year.Goals as goal
 pub returns-then-out_of_years : goal.returns-then-out_of_years
 returns-then-out_of_years c =
     let args = c.args in
-    c.none.ensures ∙ refused_in_system year_head_in no_year_head args.c args.year c.out_of_years.ensures c.if-out_of_years.true
+    refused_in_system year_head_in no_year_head args.c args.year c.out_of_years.ensures c.if-out_of_years.true
 
 pub reckoned-requires : goal.reckoned-requires
 reckoned-requires c =
@@ -16,5 +17,5 @@ reckoned-requires c =
 pub returns : goal.returns
 returns c =
     let args = c.args in
-    ap (λ day. record { refusal = 0; day = day }) c.reckoned.ensures
+    ap year_head_answered c.reckoned.ensures
     ∙ answered_in_system year_head_in no_year_head args.c args.year c.out_of_years.ensures c.if-out_of_years.false
