@@ -21,5 +21,8 @@ pub extern "C" fn head_from_page(system: u32, year: u32) -> u32
 pub extern "C" fn head_reckoned(system: u32, year: u32) -> u32
     ensures { result ≡ reckoned system year }
 {
-    reckoning::reckoned_head(system, year).day.0
+    match reckoning::reckoned_head(system, year) {
+        Ok(head) => head.0,
+        Err(_) => 0,
+    }
 }
