@@ -108,7 +108,14 @@ pub fn reckoned_head(system: u32, year: u32) -> Result<RegisterDay, Refusal>
 fn month_found(system: u32, year: u32, number: u32, leap: u32) -> Result<Month, Refusal>
     ensures { told_month result ≡ answer_unless (year_refusal system year) system year (month_silent number leap) no_month }
 {
-    by_system(system, |c| months::of_common_year(c, year, number, leap))
+    // Not by `by_system`: so long a closure the compiler does not copy to each system's constants, so that it would have to
+    // divide by variables.
+    match system {
+        1 => months::of_common_year(guantian(), year, number, leap),
+        2 => months::of_common_year(jiyuan(), year, number, leap),
+        3 => months::of_common_year(jingchu(), year, number, leap),
+        _ => Err(Refusal::System),
+    }
 }
 
 // The month of a year with a number and a leap mark; refused Month where the number is not 1 to 12 or the mark not 0 or
