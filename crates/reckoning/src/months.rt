@@ -27,8 +27,7 @@ fn list(c: Constants, first: MonthSpan, count: usize, closing: RegisterDay) -> Y
     let mut remainders = [0u32; 14];
     let mut held = [NONE_HELD; 14];
     let mut m = first;
-    let mut i = 0;
-    while i < count {
+    for i in 0..count {
         let head = register_day(c, m.head);
         let last = last_qi(c, m);
         heads[i] = head;
@@ -37,7 +36,6 @@ fn list(c: Constants, first: MonthSpan, count: usize, closing: RegisterDay) -> Y
         remainders[i] = remainder(c, m);
         held[i] = held_by(last.leap, last.qi);
         m = after(c, m);
-        i += 1;
     }
     heads[count] = closing;
     Year {

@@ -26,10 +26,8 @@ fn names_from(head: RegisterDay, length: usize) -> [u8; 384]
 {
     let first = head.0 as u64;
     let mut names = [255u8; 384];
-    let mut i = 0;
-    while i < length {
+    for i in 0..length {
         names[i] = name_of(first + i as u64);
-        i += 1;
     }
     names
 }
