@@ -4,17 +4,11 @@
 ghost use Rattle.std.specs.Prelude.{◌≡◌};
 ghost use Rattle.bench_heads.specs.Heads.{printed, reckoned};
 
-use printed_heads::Printed;
-
 #[unsafe(no_mangle)]
 pub extern "C" fn head_from_page(system: u32, year: u32) -> u32
     ensures { result ≡ printed system year }
 {
-    let said = printed_heads::of_year(system, year);
-    match said {
-        Printed::Head(head) => head.0,
-        Printed::Unprinted => 0,
-    }
+    printed_heads::of_year(system, year).map_or(0, |head| head.0)
 }
 
 #[unsafe(no_mangle)]

@@ -4,7 +4,5 @@ pub mod Table
 pub mod EachEntry
 -- What is answered from the page, as an equation and in words.
 pub mod PageAnswers
--- An entry by its block and its place there.
-pub mod Places
 -- Some years, computed.
 pub mod Examples

@@ -4,6 +4,7 @@ use mathlib.Core.Path.{◌≡◌, sym, ap, subst, ◌∙◌}
 use mathlib.Core.Bool.{true, false, true≢false, ◌&&◌}
 use native.Mathlib.Omega.{arith}
 use lib.Dec.{eqb, leb}
+use Rattle.std.specs.Prelude.{Option, Some, None}
 use borrow.Author.Tests.{eqb-true, eq-eqb, leb-true, le-leb}
 use Rattle.calendar.specs.declared.data.Constants.{Constants}
 use Rattle.calendar.specs.declared.data.RegisterDay.{RegisterDay}
@@ -14,8 +15,6 @@ use Rattle.calendar.specs.ClosedForms.{head_of_year, register_head}
 use Rattle.calendar.proofs.Cases.{both, by_bool}
 use Rattle.calendar.proofs.Spans.{span, span_first}
 use Rattle.calendar.proofs.EachSystem.{consistent}
-use Rattle.printed_heads.specs.declared.Printed.{Printed}
-use Rattle.printed_heads.specs.declared.Printed.TheVariants.{Head, Unprinted}
 use Rattle.printed_heads.specs.PrintedHeads.{first_year, last_year, OnPage, IsHead, Says, on_page, printed_head}
 
 -- Which years are on the page, by its test.
@@ -48,14 +47,14 @@ at_year {system} {year} {r} p h =
     subst (λ a. IsHead guantian (years_elapsed guantian a) r) there h
 
 pub answers : {system year : ℕ} {r : RegisterDay} → OnPage system year
-    → IsHead guantian (years_elapsed guantian year) r.0 → Head r ≡ printed_head system year
+    → IsHead guantian (years_elapsed guantian year) r.0 → Some r ≡ printed_head system year
 unfolding printed_head
 answers {system} {year} {r} p h =
     let head = head_is guantian (consistent 1) (years_elapsed guantian year) r.0 h in
-    let of_system = ap (λ c. Head (register_head c (years_elapsed c year))) (sym (of_guantian p)) in
-    ap Head (λ j. record { 0 = head j }) ∙ of_system ∙ simp (tested p)
+    let of_system = ap (λ c. Some (register_head c (years_elapsed c year))) (sym (of_guantian p)) in
+    ap Some (λ j. record { 0 = head j }) ∙ of_system ∙ simp (tested p)
 
-pub is_silent : (system year : ℕ) → on_page system year ≡ false → Unprinted ≡ printed_head system year
+pub is_silent : (system year : ℕ) → on_page system year ≡ false → None ≡ printed_head system year
 unfolding printed_head
 is_silent system year off = simp off
 
@@ -74,18 +73,18 @@ says system year =
     (λ off. subst (Says system year) (is_silent system year off) (λ p. true≢false (sym (tested p) ∙ off)))
 
 -- The words leave one answer.
-pub says_only : (system year : ℕ) (p : Printed) → Says system year p → p ≡ printed_head system year
-says_only system year (Head r) s =
+pub says_only : (system year : ℕ) (p : Option RegisterDay) → Says system year p → p ≡ printed_head system year
+says_only system year (Some r) s =
     answers s.0 (subst (λ c. IsHead c (years_elapsed c year) r.0) (of_guantian s.0) s.1)
-says_only system year Unprinted s =
+says_only system year None s =
     by_bool (on_page system year) (λ on. absurd (s (is_on system year on))) (λ off. is_silent system year off)
 
-pub answered : (system year : ℕ) {p : Printed} → p ≡ printed_head system year → (p ≡ printed_head system year) × Says system year p
+pub answered : (system year : ℕ) {p : Option RegisterDay} → p ≡ printed_head system year → (p ≡ printed_head system year) × Says system year p
 answered system year e = (e, subst (Says system year) (sym e) (says system year))
 
 -- What is found on the page is the head of its year.
-pub found_is_head : (system year : ℕ) {c : Constants} {p : Printed} {r : RegisterDay} → c ≡ constants_of system
-    → Says system year p → p ≡ Head r → r ≡ register_head c (years_elapsed c year)
+pub found_is_head : (system year : ℕ) {c : Constants} {p : Option RegisterDay} {r : RegisterDay} → c ≡ constants_of system
+    → Says system year p → p ≡ Some r → r ≡ register_head c (years_elapsed c year)
 found_is_head system year {r = r} e said found =
     let k = constants_of system in
     let head = head_is k (consistent system) (years_elapsed k year) r.0 (subst (Says system year) found said).1 in

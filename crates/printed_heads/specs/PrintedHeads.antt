@@ -1,12 +1,11 @@
 -- Paper 02, Q-5: which heads are printed, and what the page says of a year.
-use Rattle.std.specs.Prelude.{ℕ, ◌≡◌, Bool, cond, ◌&&◌, eqb, leb}
+use Rattle.std.specs.Prelude.{ℕ, ◌≡◌, Bool, cond, ◌&&◌, eqb, leb, Option, Some, None}
 use Rattle.calendar.specs.declared.data.Constants.{Constants}
+use Rattle.calendar.specs.declared.data.RegisterDay.{RegisterDay}
 use Rattle.calendar.specs.Inside.{Inside}
 use Rattle.calendar.specs.Systems.{constants_of, years_elapsed, IsRegisterDay}
 use Rattle.calendar.specs.Year.{Span, year_head}
 use Rattle.calendar.specs.ClosedForms.{register_head}
-use Rattle.printed_heads.specs.declared.Printed.{Printed}
-use Rattle.printed_heads.specs.declared.Printed.TheVariants.{Head, Unprinted}
 
 -- The common years whose heads are printed, of Guantian alone, system 1.
 abbrev pub first_year : ℕ
@@ -27,16 +26,16 @@ pub record IsHead (c : Constants) (n r : ℕ) : Type 0 where
 
 -- What the page says of a common year, in words. That it is read from the 320 numbers no definition says: see `entry` in
 -- src/lib.rt.
-abbrev pub Says : ℕ → ℕ → Printed → Type 0
-Says system year (Head r) =
+abbrev pub Says : ℕ → ℕ → Option RegisterDay → Type 0
+Says system year (Some r) =
     OnPage system year × IsHead (constants_of system) (years_elapsed (constants_of system) year) r.0
-Says system year Unprinted = OnPage system year → ⊥
+Says system year None = OnPage system year → ⊥
 
 -- Computed: whether the page has a year, and what it says of it.
 abbrev pub on_page : ℕ → ℕ → Bool
 on_page system year = eqb system 1 && (leb first_year year && leb year last_year)
 
-unfoldable pub printed_head : ℕ → ℕ → Printed
+unfoldable pub printed_head : ℕ → ℕ → Option RegisterDay
 printed_head system year =
     let c = constants_of system in
-    cond (on_page system year) (Head (register_head c (years_elapsed c year))) Unprinted
+    cond (on_page system year) (Some (register_head c (years_elapsed c year))) None

@@ -12,7 +12,6 @@ use crate::closed_forms::{count_day, register_day, years_elapsed};
 use crate::month_spans::{MonthSpan, first_of_year, of_day};
 use crate::refusal::{Refusal, out_of_years};
 use calendar::data::{Constants, RegisterDay};
-use printed_heads::Printed;
 
 // The register day of a year's head, reckoned.
 pub(crate) fn reckoned(c: Constants, year: u32) -> RegisterDay
@@ -41,8 +40,8 @@ pub(crate) fn of_year(system: u32, c: Constants, year: u32) -> RegisterDay
 {
     let printed = printed_heads::of_year(system, year);
     match printed {
-        Printed::Head(head) => head,
-        Printed::Unprinted => reckoned(c, year),
+        Some(head) => head,
+        None => reckoned(c, year),
     }
 }
 
@@ -66,7 +65,7 @@ pub(crate) fn first_month(system: u32, c: Constants, year: u32) -> MonthSpan
 {
     let printed = printed_heads::of_year(system, year);
     match printed {
-        Printed::Head(head) => of_head(c, count_day(c, head)),
-        Printed::Unprinted => first_of_year(c, years_elapsed(c, year)),
+        Some(head) => of_head(c, count_day(c, head)),
+        None => first_of_year(c, years_elapsed(c, year)),
     }
 }

@@ -7,5 +7,5 @@ returns-then-on_page c =
     let on_page = is_on _ _ (sym c.on_page.ensures ∙ c.if-on_page.true) in
     answered _ _ (answers on_page (at_year on_page c.entry.ensures))
 
-pub returns : goal.returns
-returns c = answered _ _ (is_silent _ _ (sym c.on_page.ensures ∙ c.if-on_page.false))
+pub returns-else-on_page : goal.returns-else-on_page
+returns-else-on_page c = answered _ _ (is_silent _ _ (sym c.on_page.ensures ∙ c.if-on_page.false))

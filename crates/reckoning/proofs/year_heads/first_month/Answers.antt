@@ -9,22 +9,22 @@ use Rattle.reckoning.proofs.year_heads.first_month.Goals as goal
 
 pub count_day-requires : goal.count_day-requires
 count_day-requires c =
-    (c.requires.1.constants_fit, from_epoch c.requires.1 ((found_is_head _ _ c.requires.0 c.of_year-printed.ensures.1 c.in-Head.is)))
+    (c.requires.1.constants_fit, from_epoch c.requires.1 ((found_is_head _ _ c.requires.0 c.of_year-printed.ensures.1 c.in-Some.is)))
 
 pub of_head-requires : goal.of_head-requires
 of_head-requires c =
     let fit = c.requires.1.constants_fit in
     let n = years_elapsed c.args.c c.args.year in
-    (fit, omega (arith, c.count_day.ensures), is_its_months_head n fit.consistent ((c.count_day.ensures ∙ count_day_lem c.requires.1 ((found_is_head _ _ c.requires.0 c.of_year-printed.ensures.1 c.in-Head.is)))))
+    (fit, omega (arith, c.count_day.ensures), is_its_months_head n fit.consistent ((c.count_day.ensures ∙ count_day_lem c.requires.1 ((found_is_head _ _ c.requires.0 c.of_year-printed.ensures.1 c.in-Some.is)))))
 
-pub returns-in-Head : goal.returns-in-Head
-returns-in-Head c =
+pub returns-in-Some : goal.returns-in-Some
+returns-in-Some c =
     let k = c.args.c in
     let n = years_elapsed k c.args.year in
-    let day = ap (month_of_day k) ((c.count_day.ensures ∙ count_day_lem c.requires.1 ((found_is_head _ _ c.requires.0 c.of_year-printed.ensures.1 c.in-Head.is)))) in
+    let day = ap (month_of_day k) ((c.count_day.ensures ∙ count_day_lem c.requires.1 ((found_is_head _ _ c.requires.0 c.of_year-printed.ensures.1 c.in-Some.is)))) in
     c.of_head.ensures ∙ ap (month_span k) (day ∙ month_of_head k c.requires.1.constants_fit.consistent n)
 
-pub returns-in-Unprinted : goal.returns-in-Unprinted
-returns-in-Unprinted c =
+pub returns-in-None : goal.returns-in-None
+returns-in-None c =
     let k = c.args.c in
     c.first_of_year.ensures ∙ ap (λ n. month_span k (first_month k n)) c.years_elapsed.ensures
