@@ -38,11 +38,7 @@ pub(crate) fn of_year(system: u32, c: Constants, year: u32) -> RegisterDay
     requires { (c ≡ constants_of system) × HeadInRegister c (years_elapsed c year) }
     ensures { result ≡ register_head c (years_elapsed c year) }
 {
-    let printed = printed_heads::of_year(system, year);
-    match printed {
-        Some(head) => head,
-        None => reckoned(c, year),
-    }
+    printed_heads::of_year(system, year).unwrap_or_else(|| reckoned(c, year))
 }
 
 // The month whose head is count day d.
@@ -63,8 +59,7 @@ pub(crate) fn first_month(system: u32, c: Constants, year: u32) -> MonthSpan
     requires { (c ≡ constants_of system) × HeadInRegister c (years_elapsed c year) }
     ensures { result ≡ month_span c (first_month c (years_elapsed c year)) }
 {
-    let printed = printed_heads::of_year(system, year);
-    match printed {
+    match printed_heads::of_year(system, year) {
         Some(head) => of_head(c, count_day(c, head)),
         None => first_of_year(c, years_elapsed(c, year)),
     }
