@@ -1,9 +1,7 @@
 -- The count of parts that a fraction of a day settles to: paper 02, Q-11.
-use Rattle.std.specs.Prelude.{ℕ, zero, suc, ◌<◌, ◌≡◌, ◌⊎◌, Bool, cond, ◌&&◌, T, ltb, Float}
+use Rattle.std.specs.Prelude.{ℕ, zero, suc, ◌<◌, ◌≡◌, ◌⊎◌, Bool, cond, ◌&&◌, T, ltb, Float, Option, Some, None}
 use Rattle.std.specs.Float.{nan}
 use Rattle.std.specs.Float.Ieee.{le, lt}
-use Rattle.day_fraction.specs.declared.Settled.{Settled}
-use Rattle.day_fraction.specs.declared.Settled.TheVariants.{None, Count}
 use Rattle.day_fraction.specs.Fraction.{fraction_of, zero_float, one_float}
 
 -- "A fraction that is not a number, below zero or not below one" is none of a day.
@@ -32,8 +30,8 @@ abbrev pub count_of : ℕ → Float → ℕ
 count_of in_day f = largest_below in_day (not_above in_day f)
 
 -- A fraction settles to that count. A day of no parts has none.
-unfoldable pub settled_of : ℕ → Float → Settled
-settled_of in_day f = cond (ltb 0 in_day && is_fraction f) (Count (count_of in_day f)) None
+unfoldable pub settled_of : ℕ → Float → Option ℕ
+settled_of in_day f = cond (ltb 0 in_day && is_fraction f) (Some (count_of in_day f)) None
 
 -- A test as a number: 1 where it holds, and 0 where it does not.
 abbrev pub bit : Bool → ℕ

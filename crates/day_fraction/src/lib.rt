@@ -7,13 +7,6 @@ ghost use Rattle.std.specs.Float.Ieee.{div, le};
 ghost use Rattle.day_fraction.specs.Fraction.{fraction_of};
 ghost use Rattle.day_fraction.specs.Settling.{is_fraction, count_of, settled_of, bit};
 
-// The count of parts that a time settles to; none where it is no time of the day.
-#[derive(Clone, Copy)]
-pub enum Settled {
-    None,
-    Count(u16),
-}
-
 // So many of the parts in a day, as a fraction of it: one quotient, rounded once. Of a day of no parts it is infinite, or
 // not a number.
 pub fn fraction(in_day: u16, parts: u32) -> f64
@@ -53,20 +46,22 @@ fn count(in_day: u16, f: f64) -> u16
 // The bit pattern of negative zero. All above it are of floats below zero, or of none.
 const NEGATIVE_ZERO: u64 = 9_223_372_036_854_775_808;
 
-// The count that a fraction of the day settles to. Whether f is below zero is told by its pattern: a program may have
-// asked the processor to take the smallest floats for zero in comparisons.
-pub fn settle(in_day: u16, f: f64) -> Settled
+// Whether f is a fraction of a day. That it is not below zero is told by its pattern: a program may have asked the
+// processor to take the smallest floats for zero in comparisons.
+fn is_fraction(f: f64) -> bool
+    ensures { result ≡ is_fraction f }
+{
+    f < 1.0 && f64::to_bits(f) <= NEGATIVE_ZERO
+}
+
+// The count that a fraction of the day settles to; none where it is no fraction of a day.
+#[tactic(auto, unfolding(crate::specs::Settling::settled_of))]
+pub fn settle(in_day: u16, f: f64) -> Option<u16>
     ensures { result ≡ settled_of in_day f }
 {
-    if in_day == 0 {
-        return Settled::None;
+    if 0 < in_day && is_fraction(f) {
+        Some(count(in_day, f))
+    } else {
+        None
     }
-    if f < 1.0 {
-        let pattern = f64::to_bits(f);
-        if pattern <= NEGATIVE_ZERO {
-            return Settled::Count(count(in_day, f));
-        }
-        return Settled::None;
-    }
-    Settled::None
 }
