@@ -1,14 +1,22 @@
 -- The count that the code finds.
 use Prim.Native.Nat.{ℕ, ◌+◌, ◌^◌, ◌<◌}
-use mathlib.Core.Path.{◌≡◌, ap, ◌∙◌}
-use mathlib.Core.Bool.{false}
+use mathlib.Core.Path.{◌≡◌, refl, ap, ◌∙◌}
+use mathlib.Core.Bool.{Bool, true, false}
 use native.Mathlib.Omega.{arith}
 use lib.Dec.{T}
 use lib.IntN.{pos}
 use lib.Ieee.{Float, fin, binary64, of_int, add, sub, div, le, fits}
+use Rattle.std.specs.Int.{from_bool}
 use Rattle.day_fraction.specs.Settling.{is_fraction, count_of, bit}
 use Rattle.day_fraction.proofs.Guessing.{sum_of, guess_of, near, guess_float, next_float}
 use Rattle.day_fraction.proofs.Largest.{found, count_below}
+
+is_bit : (b : Bool) → from_bool b ≡ bit b
+is_bit true = refl
+is_bit false = refl
+
+pub as_bit : {x : ℕ} {b test : Bool} → x ≡ from_bool b → b ≡ test → x ≡ bit test
+as_bit {x} {b} is e = is ∙ is_bit b ∙ ap bit e
 
 module _ (day : ℕ) (f : Float) (some : 0 < day) (few : day < 2 ^ 16) (float : T (fits binary64 f)) (t : T (is_fraction f)) where
   abbrev whole : Float

@@ -5,7 +5,7 @@ ghost use Rattle.std.specs.Prelude.{◌≡◌, ◌<◌, T};
 ghost use Rattle.std.specs.Float.{binary64};
 ghost use Rattle.std.specs.Float.Ieee.{div, le};
 ghost use Rattle.day_fraction.specs.Fraction.{fraction_of};
-ghost use Rattle.day_fraction.specs.Settling.{is_fraction, count_of, settled_of, bit};
+ghost use Rattle.day_fraction.specs.Settling.{is_fraction, count_of, settled_of};
 
 // So many of the parts in a day, as a fraction of it: one quotient, rounded once. Of a day of no parts it is infinite, or
 // not a number.
@@ -15,11 +15,11 @@ pub fn fraction(in_day: u16, parts: u32) -> f64
     parts as f64 / in_day as f64
 }
 
-// 1 where a quotient is not above f, and 0 where it is.
-fn not_above(parts: f64, in_day: f64, f: f64) -> u32
-    ensures { result ≡ bit (le (div binary64 parts in_day) f) }
+// Whether a quotient is not above f.
+fn not_above(parts: f64, in_day: f64, f: f64) -> bool
+    ensures { result ≡ le (div binary64 parts in_day) f }
 {
-    if parts / in_day <= f { 1 } else { 0 }
+    parts / in_day <= f
 }
 
 // 2^52, and its bit pattern. From there up to 2^53 the floats are the whole numbers, and their patterns count on by one.
@@ -38,8 +38,8 @@ fn count(in_day: u16, f: f64) -> u16
     let shifted = f * all + WHOLE;
     let guess = (f64::to_bits(shifted) - WHOLE_PATTERN) as u32;
     let parts = shifted - WHOLE;
-    let at_guess = not_above(parts, all, f);
-    let after_guess = not_above(parts + 1.0, all, f);
+    let at_guess = u32::from(not_above(parts, all, f));
+    let after_guess = u32::from(not_above(parts + 1.0, all, f));
     (guess + at_guess + after_guess - 1) as u16
 }
 

@@ -5,15 +5,15 @@ use lib.Dec.{T}
 use lib.Ieee.{of_bits}
 use Rattle.day_fraction.proofs.Guessing.{guess_of, sum_number, pattern_least, guess_small}
 use Rattle.day_fraction.specs.Settling.{count_of}
-use Rattle.day_fraction.proofs.Counting.{total}
+use Rattle.day_fraction.proofs.Counting.{as_bit, total}
 use Rattle.day_fraction.proofs.count.Goals as goal
 
-found : (c : goal.After-not_above-after_guess) → let day = c.args.in_day in
+found : (c : goal.After-from-after_guess) → let day = c.args.in_day in
     let f = c.args.f in
-    (guess_of day f + c.not_above-at_guess.result + c.not_above-after_guess.result ≡ count_of day f + 1) × (count_of day f < day)
+    (guess_of day f + c.from-at_guess.result + c.from-after_guess.result ≡ count_of day f + 1) × (count_of day f < day)
 unfolding of_bits
 found c =
-    total _ _ c.requires.0 c.ranges.in_day.fits (subst T (sym c.well_formed.1.0.1) tt) c.requires.1 c.not_above-at_guess.ensures c.not_above-after_guess.ensures
+    total _ _ c.requires.0 c.ranges.in_day.fits (subst T (sym c.well_formed.1.0.1) tt) c.requires.1 (as_bit c.from-at_guess.ensures c.not_above.ensures) (as_bit c.from-after_guess.ensures c.not_above-2.ensures)
 
 pub float_to_bits-guess : goal.float_to_bits-guess
 unfolding of_bits
