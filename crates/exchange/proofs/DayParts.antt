@@ -9,13 +9,13 @@ use Rattle.calendar.specs.Systems.{guantian, jiyuan}
 use Rattle.exchange.specs.Systems.{HasExchange, parts_in_day}
 
 module _ (system : ℕ) where
-  pub parts_1 : system ≡ 1 → guantian.solar ≡ parts_in_day system
+  parts_1 : system ≡ 1 → guantian.solar ≡ parts_in_day system
   parts_1 is = simp (eq-eqb system 1 is)
 
-  pub parts_2 : system ≡ 2 → jiyuan.solar ≡ parts_in_day system
+  parts_2 : system ≡ 2 → jiyuan.solar ≡ parts_in_day system
   parts_2 is = simp (ne_eqb system 1 (λ e. omega arith), eq-eqb system 2 is)
 
-  pub parts_none : (system ≡ 1 → ⊥) → (system ≡ 2 → ⊥) → 0 ≡ parts_in_day system
+  parts_none : (system ≡ 1 → ⊥) → (system ≡ 2 → ⊥) → 0 ≡ parts_in_day system
   parts_none not_1 not-2 = simp (ne_eqb system 1 not_1, ne_eqb system 2 not-2)
 
 -- A system has an exchange, and D is above 0 and below 2^16; or it has none.

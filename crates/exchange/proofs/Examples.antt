@@ -6,7 +6,7 @@ use mathlib.Core.List.{List, [], ◌∷◌, ◌++◌, map}
 use native.Mathlib.Omega.{arith}
 use lib.ListN.{length, replicate}
 use lib.Ieee.{of_int, div, to_bits, of_bits, le, lt}
-use Rattle.day_fraction.specs.declared.Settled.TheVariants.{Count}
+use Rattle.std.specs.Prelude.{Some}
 use Rattle.day_fraction.specs.Settling.{is_fraction, settled_of}
 use Rattle.day_fraction.proofs.Examples.{guantian_settles}
 use Rattle.exchange.specs.declared.data.Time.TheVariants.{Fraction}
@@ -58,7 +58,7 @@ unfolding to_bits of_int div
 one_part_imported = ap import_answer (row_comes_back 1 67305985 1 (inl refl) (omega arith) (omega arith))
 
 -- and others: negative zero, the smallest float, and the last one below one.
-settled_answer : (s : List ℕ) (count : ℕ) → length s ≡ 13 → tag_field s ≡ 1 → settled_of 12_030 (fraction_field s) ≡ Count count
+settled_answer : (s : List ℕ) (count : ℕ) → length s ≡ 13 → tag_field s ≡ 1 → settled_of 12_030 (fraction_field s) ≡ Some count
     → import_answer (import_of 1 s) ≡ day_field s + 2 ^ 40 * count + 2 ^ 56
 settled_answer s count long tag is =
     ap import_answer

@@ -33,7 +33,6 @@ module _ (system parts room : ℕ) where
   export_refusal_is_the_first =
       by_exchange system
       (λ has some few.
-      let not_0 : parts_in_day system ≡ 0 → ⊥ = λ z. omega arith in
       inr (
         λ never. never has,
         by_order parts (parts_in_day system)
@@ -41,10 +40,10 @@ module _ (system parts room : ℕ) where
             inr (
               λ past. omega arith,
               by_order room 13
-                  (λ h. inl (no_room system parts room not_0 below h, h))
-                  (λ h. inr (λ short. omega arith, none system parts room not_0 below h)),
+                  (λ h. inl (no_room system parts room some below h, h))
+                  (λ h. inr (λ short. omega arith, none system parts room some below h)),
             ))
-            (λ past. inl (no_time system parts room not_0 past, past)),
+            (λ past. inl (no_time system parts room some past, past)),
       ))
       (λ never z. inl (no_exchange system parts room z, never))
 
@@ -54,7 +53,7 @@ module _ (system parts room : ℕ) where
       (λ has some few.
       by_order parts (parts_in_day system)
       (λ below. (has, below))
-      (λ past. absurd (omega (arith, accepted, no_time system parts room (λ z. omega arith) past))))
+      (λ past. absurd (omega (arith, accepted, no_time system parts room some past))))
       (λ never z. absurd (omega (arith, accepted, no_exchange system parts room z)))
 
 module _ (system day parts units : ℕ) (before : List ℕ) where

@@ -17,19 +17,19 @@ module _ (system parts room : ℕ) where
   unfolding export_refusal
   no_exchange none = simp (eq-eqb (parts_in_day system) 0 none)
 
-  module _ (some : parts_in_day system ≡ 0 → ⊥) where
+  module _ (some : 0 < parts_in_day system) where
     pub no_time : parts_in_day system ≤ parts → export_refusal system parts room ≡ TIME
     unfolding export_refusal
-    no_time h = simp (ne_eqb (parts_in_day system) 0 some, le-leb (parts_in_day system) parts h)
+    no_time h = simp (ne_eqb (parts_in_day system) 0 (λ z. omega arith), le-leb (parts_in_day system) parts h)
 
     module _ (below : parts < parts_in_day system) where
       pub no_room : room < 13 → export_refusal system parts room ≡ OUTPUT
       unfolding export_refusal
-      no_room h = simp (ne_eqb (parts_in_day system) 0 some, lt-leb (parts_in_day system) parts below, lt-ltb room 13 h)
+      no_room h = simp (ne_eqb (parts_in_day system) 0 (λ z. omega arith), lt-leb (parts_in_day system) parts below, lt-ltb room 13 h)
 
       pub none : 13 ≤ room → export_refusal system parts room ≡ 0
       unfolding export_refusal
-      none h = simp (ne_eqb (parts_in_day system) 0 some, lt-leb (parts_in_day system) parts below, le-ltb room 13 h)
+      none h = simp (ne_eqb (parts_in_day system) 0 (λ z. omega arith), lt-leb (parts_in_day system) parts below, le-ltb room 13 h)
 
 -- What is answered with it,
 module _ (system parts units room : ℕ) where

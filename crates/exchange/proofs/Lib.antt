@@ -1,7 +1,7 @@
 -- Theorems on the exchange, and laws that serve several functions.
 -- The parts in a day of a system that has an exchange.
 pub mod DayParts
--- Bit patterns of floats, and the bytes of a row.
+-- Bit patterns of floats.
 pub mod Patterns
 -- What an import answers, by the tests of the code.
 pub mod Importing

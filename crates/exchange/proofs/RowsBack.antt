@@ -11,7 +11,7 @@ use Rattle.little_endian.proofs.ReadBack.{read_back_4, read_back_8}
 use Rattle.reckoning.specs.Requests.{as_register_day}
 use Rattle.day_fraction.specs.Fraction.{fraction_of}
 use Rattle.day_fraction.specs.Settling.{settled_of}
-use Rattle.day_fraction.specs.declared.Settled.TheVariants.{Count}
+use Rattle.std.specs.Prelude.{Some}
 use Rattle.day_fraction.proofs.ComesBack.{fraction_float, fraction_of_day, comes_back}
 use Rattle.day_fraction.proofs.Ends.{settled_fraction}
 use Rattle.exchange.specs.declared.data.Time.TheVariants.{Fraction}
@@ -44,8 +44,8 @@ module _ (system day parts : ℕ) (has : HasExchange system) (below : parts < pa
   few : D < 2 ^ 16
   few = (exchange_inside system has).1
 
-  settles : settled_of D f ≡ Count parts
-  settles = sym (settled_fraction D f some (fraction_of_day D some few parts below)) ∙ ap Count (comes_back D some few parts below)
+  settles : settled_of D f ≡ Some parts
+  settles = sym (settled_fraction D f some (fraction_of_day D some few parts below)) ∙ ap Some (comes_back D some few parts below)
 
   -- "Every exported fraction comes back as its own count."
   pub row_comes_back : import_of system (row_of day f) ≡ Row (as_register_day day) (Fraction f) parts

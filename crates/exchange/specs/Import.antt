@@ -1,9 +1,7 @@
 -- What an import answers, for every input.
-use Rattle.std.specs.Prelude.{ℕ, ◌+◌, ◌*◌, ◌^◌, cond, List, ltb, eqb, length}
+use Rattle.std.specs.Prelude.{ℕ, ◌+◌, ◌*◌, ◌^◌, cond, List, ltb, eqb, length, Option, Some, None}
 use Rattle.reckoning.specs.Requests.{as_register_day}
 use Rattle.reckoning.specs.RefusalNumbers.{KIND, LENGTH, SYSTEM, TIME}
-use Rattle.day_fraction.specs.declared.Settled.{Settled}
-use Rattle.day_fraction.specs.declared.Settled.TheVariants.{None, Count}
 use Rattle.day_fraction.specs.Settling.{settled_of}
 use Rattle.exchange.specs.declared.data.Time.{Time}
 use Rattle.exchange.specs.declared.data.Time.TheVariants.{Fraction, Parts}
@@ -13,14 +11,14 @@ use Rattle.exchange.specs.Systems.{parts_in_day}
 use Rattle.exchange.specs.Row.{day_field, tag_field, fraction_field, parts_field, filler_field}
 
 -- The count that a time settles to, in a day of so many parts: a count below them as it is.
-abbrev pub settled_time : ℕ → Time → Settled
+abbrev pub settled_time : ℕ → Time → Option ℕ
 settled_time in_day (Fraction fraction) = settled_of in_day fraction
-settled_time in_day (Parts parts) = cond (ltb parts in_day) (Count parts) None
+settled_time in_day (Parts parts) = cond (ltb parts in_day) (Some parts) None
 
 -- A day with its time as it came and the count that it settles to; refused TIME where it settles to none.
-abbrev pub answer_with : ℕ → Time → Settled → Imported
+abbrev pub answer_with : ℕ → Time → Option ℕ → Imported
 answer_with day time None = Refused TIME
-answer_with day time (Count count) = Row (as_register_day day) time count
+answer_with day time (Some count) = Row (as_register_day day) time count
 
 abbrev pub answer_of : ℕ → ℕ → Time → Imported
 answer_of in_day day time = answer_with day time (settled_time in_day time)

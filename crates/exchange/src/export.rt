@@ -15,10 +15,9 @@ pub fn chiselbrow_export(system: u64, day: u32, parts: u64, units: u64, output: 
     ensures value { result ≡ export_answer system parts units (length output.old) }
     ensures output_after { output.new ≡ exported_into system day parts output.old }
 {
-    let in_day = parts_in_day(system);
-    if in_day == 0 {
+    let Some(in_day) = parts_in_day(system) else {
         return SYSTEM as u64 * REFUSAL_UNIT;
-    }
+    };
     if in_day as u64 <= parts {
         return TIME as u64 * REFUSAL_UNIT;
     }

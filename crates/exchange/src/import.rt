@@ -8,22 +8,15 @@ use crate::data::{Imported, Time};
 use crate::row;
 use crate::systems::parts_in_day;
 use calendar::data::RegisterDay;
-use day_fraction::Settled;
 use reckoning::refusal_numbers::{KIND, LENGTH, REFUSAL_UNIT, SYSTEM, TIME};
 
 // The count that a time settles to.
-fn settle(in_day: u16, time: Time) -> Settled
+fn settle(in_day: u16, time: Time) -> Option<u16>
     ensures { result ≡ settled_time in_day time }
 {
     match time {
         Time::Fraction(fraction) => day_fraction::settle(in_day, fraction),
-        Time::Parts(parts) => {
-            if parts < in_day {
-                Settled::Count(parts)
-            } else {
-                Settled::None
-            }
-        }
+        Time::Parts(parts) => (parts < in_day).then_some(parts),
     }
 }
 
@@ -31,10 +24,9 @@ fn settle(in_day: u16, time: Time) -> Settled
 fn answer(in_day: u16, day: RegisterDay, time: Time) -> Imported
     ensures { result ≡ answer_of in_day day.0 time }
 {
-    let settled = settle(in_day, time);
-    match settled {
-        Settled::None => Imported::Refused(TIME),
-        Settled::Count(count) => Imported::Row(day, time, count),
+    match settle(in_day, time) {
+        Some(count) => Imported::Row(day, time, count),
+        None => Imported::Refused(TIME),
     }
 }
 
@@ -79,24 +71,21 @@ fn parts_row(in_day: u16, row: &[u8]) -> Imported
 }
 
 // Imports a row by a system.
+#[tactic(auto, unfolding(crate::specs::Import::import_of))]
 pub fn import(system: u64, row: &[u8]) -> Imported
     ensures { result ≡ import_of system row.now }
 {
     if row.len() != row::SIZE {
         return Imported::Refused(LENGTH);
     }
-    let in_day = parts_in_day(system);
-    if in_day == 0 {
+    let Some(in_day) = parts_in_day(system) else {
         return Imported::Refused(SYSTEM);
+    };
+    match row[4] {
+        row::FRACTION => fraction_row(in_day, row),
+        row::PARTS => parts_row(in_day, row),
+        _ => Imported::Refused(KIND),
     }
-    let tag = row[4];
-    if tag == row::FRACTION {
-        return fraction_row(in_day, row);
-    }
-    if tag == row::PARTS {
-        return parts_row(in_day, row);
-    }
-    Imported::Refused(KIND)
 }
 
 // 2^40 and 2^56: in an answer to C the count stands above the 8 bits of a refusal number, and the tag above it.
@@ -118,8 +107,7 @@ fn tag(time: Time) -> u8
 pub fn chiselbrow_import(system: u64, row: &[u8]) -> u64
     ensures { result ≡ import_answer (import_of system row.now) }
 {
-    let imported = import(system, row);
-    match imported {
+    match import(system, row) {
         Imported::Refused(refusal) => refusal as u64 * REFUSAL_UNIT,
         Imported::Row(day, time, count) => {
             day.0 as u64 + count as u64 * COUNT_UNIT + tag(time) as u64 * TAG_UNIT

@@ -4,7 +4,7 @@ ghost use Rattle.std.specs.Float.Ieee.{is_nan};
 ghost use Rattle.exchange.specs.Row.{day_field, pattern_field, row_of};
 
 use calendar::data::RegisterDay;
-use little_endian::{bytes4, le32, le64};
+use little_endian::{bytes4, bytes8, le32, le64};
 
 // Bytes in a row.
 pub(crate) const SIZE: usize = 13;
@@ -38,12 +38,10 @@ pub(crate) fn of_fraction(day: RegisterDay, fraction: f64) -> Row
     requires { T (not (is_nan fraction)) }
     ensures { result ≡ row_of day.0 fraction }
 {
-    let pattern = f64::to_bits(fraction);
-    let d = bytes4(day.0);
-    let low = bytes4((pattern % 4_294_967_296) as u32);
-    let high = bytes4((pattern / 4_294_967_296) as u32);
+    let day = bytes4(day.0);
+    let time = bytes8(f64::to_bits(fraction));
     [
-        d[0], d[1], d[2], d[3], FRACTION, low[0], low[1], low[2], low[3], high[0], high[1],
-        high[2], high[3],
+        day[0], day[1], day[2], day[3], FRACTION, time[0], time[1], time[2], time[3], time[4],
+        time[5], time[6], time[7],
     ]
 }

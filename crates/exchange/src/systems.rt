@@ -1,20 +1,17 @@
 // The systems that have an exchange.
-ghost use Rattle.std.specs.Prelude.{◌≡◌};
+ghost use Rattle.std.specs.Prelude.{◌≡◌, ◌<◌, MatchOption};
 ghost use Rattle.exchange.specs.Systems.{parts_in_day};
 
 use calendar::systems;
 
-// Parts in a day; 0 of a system that has no exchange.
-pub(crate) fn parts_in_day(system: u64) -> u16
-    ensures { result ≡ parts_in_day system }
+// Parts in a day; none of a system that has no exchange.
+pub(crate) fn parts_in_day(system: u64) -> Option<u16>
+    ensures { MatchOption result (parts_in_day system ≡ 0) (λ parts. (parts ≡ parts_in_day system) × (0 < parts)) }
 {
-    if system == 1 {
-        let c = systems::guantian();
-        return c.solar as u16;
-    }
-    if system == 2 {
-        let c = systems::jiyuan();
-        return c.solar as u16;
-    }
-    0
+    let constants = match system {
+        1 => systems::guantian(),
+        2 => systems::jiyuan(),
+        _ => return None,
+    };
+    Some(constants.solar as u16)
 }

@@ -2,7 +2,7 @@
 #![tactic(auto)]
 
 ghost use Rattle.std.specs.Prelude.{◌≡◌, ◌<◌, ◌^◌};
-ghost use Rattle.little_endian.specs.Number.{le16, le32, le64, bytes4};
+ghost use Rattle.little_endian.specs.Number.{le16, le32, le64, bytes4, bytes8};
 
 // A byte as a number of 32 bits.
 pub fn wide(x: u8) -> u32
@@ -29,9 +29,16 @@ pub fn le64(b0: u8, b1: u8, b2: u8, b3: u8, b4: u8, b5: u8, b6: u8, b7: u8) -> u
     u64::from_le_bytes([b0, b1, b2, b3, b4, b5, b6, b7])
 }
 
-// The bytes of a number.
+// The bytes of a number of four bytes,
 pub fn bytes4(n: u32) -> [u8; 4]
     ensures { result ≡ bytes4 n }
 {
-    n.to_le_bytes()
+    u32::to_le_bytes(n)
+}
+
+// and of one of eight.
+pub fn bytes8(n: u64) -> [u8; 8]
+    ensures { result ≡ bytes8 n }
+{
+    u64::to_le_bytes(n)
 }
