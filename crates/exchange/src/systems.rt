@@ -8,10 +8,13 @@ use calendar::systems;
 pub(crate) fn parts_in_day(system: u64) -> Option<u16>
     ensures { MatchOption result (parts_in_day system ≡ 0) (λ parts. (parts ≡ parts_in_day system) × (0 < parts)) }
 {
-    let constants = match system {
-        1 => systems::guantian(),
-        2 => systems::jiyuan(),
-        _ => return None,
+    if system == 0 || 2 < system {
+        return None;
+    }
+    let constants = if system == 1 {
+        systems::guantian()
+    } else {
+        systems::jiyuan()
     };
     Some(constants.solar as u16)
 }
