@@ -1,11 +1,11 @@
 // The import of a row.
-ghost use Rattle.std.specs.Prelude.{◌≡◌, ◌≤◌, not, length};
+ghost use Rattle.std.specs.Prelude.{◌≡◌, not};
 ghost use Rattle.std.specs.Float.{binary64};
 ghost use Rattle.std.specs.Float.Ieee.{nan_bits};
 ghost use Rattle.exchange.specs.Import.{settled_time, answer_of, fraction_answer, parts_answer, import_of, tag_of, import_answer};
 
 use crate::data::{Imported, Time};
-use crate::row;
+use crate::row::{self, Row};
 use crate::systems::parts_in_day;
 use calendar::data::RegisterDay;
 use reckoning::refusal_numbers::{KIND, LENGTH, REFUSAL_UNIT, SYSTEM, TIME};
@@ -42,8 +42,7 @@ fn is_number(pattern: u64) -> bool
 }
 
 // A row whose time is a fraction.
-fn fraction_row(in_day: u16, row: &[u8]) -> Imported
-    requires { 13 ≤ length row.now }
+fn fraction_row(in_day: u16, row: &Row) -> Imported
     ensures { result ≡ fraction_answer in_day row.now }
 {
     let pattern = row::time(row);
@@ -59,8 +58,7 @@ fn fraction_row(in_day: u16, row: &[u8]) -> Imported
 
 // A row whose time is a count of parts, in the first two of its bytes; the others are to be zero. Where one is not, the
 // time as one number is above any count.
-fn parts_row(in_day: u16, row: &[u8]) -> Imported
-    requires { 13 ≤ length row.now }
+fn parts_row(in_day: u16, row: &Row) -> Imported
     ensures { result ≡ parts_answer in_day row.now }
 {
     let time = row::time(row);
@@ -75,9 +73,9 @@ fn parts_row(in_day: u16, row: &[u8]) -> Imported
 pub fn import(system: u64, row: &[u8]) -> Imported
     ensures { result ≡ import_of system row.now }
 {
-    if row.len() != row::SIZE {
+    let Ok(row) = <&Row>::try_from(row) else {
         return Imported::Refused(LENGTH);
-    }
+    };
     let Some(in_day) = parts_in_day(system) else {
         return Imported::Refused(SYSTEM);
     };

@@ -1,5 +1,5 @@
 // A row of the list.
-ghost use Rattle.std.specs.Prelude.{◌≡◌, not, ◌≤◌, T, length};
+ghost use Rattle.std.specs.Prelude.{◌≡◌, not, T};
 ghost use Rattle.std.specs.Float.Ieee.{is_nan};
 ghost use Rattle.exchange.specs.Row.{day_field, pattern_field, row_of};
 
@@ -16,16 +16,14 @@ pub(crate) const FRACTION: u8 = 1;
 
 pub(crate) const PARTS: u8 = 2;
 
-pub(crate) fn day(row: &[u8]) -> RegisterDay
-    requires { 13 ≤ length row.now }
+pub(crate) fn day(row: &Row) -> RegisterDay
     ensures { result.0 ≡ day_field row.now }
 {
     RegisterDay(le32(row[0], row[1], row[2], row[3]))
 }
 
 // The eight bytes of the time as one number: the bit pattern of a fraction, or the parts with the filler above them.
-pub(crate) fn time(row: &[u8]) -> u64
-    requires { 13 ≤ length row.now }
+pub(crate) fn time(row: &Row) -> u64
     ensures { result ≡ pattern_field row.now }
 {
     le64(
