@@ -3,13 +3,14 @@ use Prim.Native.Nat.{ℕ, ◌+◌, ◌*◌, ◌-◌, ◌≤◌, ◌<◌, min}
 use mathlib.Core.Path.{◌≡◌, refl, sym, ap, ap₂, ◌∙◌}
 use mathlib.Core.Bool.{Bool, true, false, true≢false, cond, ◌&&◌}
 use mathlib.Core.List.{List, [], ◌∷◌}
+use Rattle.std.specs.Prelude.{Some, None, is_some}
+use Rattle.std.proofs.Common.{unwrap_or}
 use native.Mathlib.Numerals.{add-one}
 use native.Mathlib.Omega.{arith}
 use lib.ListN.{length, drop, get_or, drop_of_length-le}
 use lib.Seq.{drop-cons}
 use borrow.Author.Tests.{le-leb, lt-leb}
 use Rattle.calendar.proofs.Rising.{by_order}
-use Rattle.arguments.specs.declared.number.Argument.{Argument}
 use Rattle.text.specs.Decimal.{with_digits, number_of}
 use Rattle.arguments.specs.Number.{most, is_digit, all_digits, is_number, argument_of}
 
@@ -36,7 +37,7 @@ pub reading_starts : (text : List ℕ) → Reading text 0 0
 reading_starts text = record { within = omega arith; digits = refl; value = refl }
 
 some_text : (text : List ℕ) → 0 < length text
-    → argument_of text ≡ cond (all_digits text) (Argument.Number (min most (with_digits 0 text))) Argument.Other
+    → argument_of text ≡ cond (all_digits text) (Some (min most (with_digits 0 text))) None
 unfolding argument_of is_number
 some_text [] h = absurd (omega arith)
 some_text (byte ∷ text) h = refl
@@ -64,21 +65,21 @@ module _ (text : List ℕ) (n i : ℕ) (r : Reading text n i) where
         value = value_left h ∙ sym (cut_early (n * 10 + (byte - 48)) (drop (i + 1) text));
       }
 
-  pub reading_stops : i < length text → is_digit byte ≡ false → Argument.Other ≡ argument_of text
+  pub reading_stops : i < length text → is_digit byte ≡ false → None ≡ argument_of text
   reading_stops h e =
       let stop : all_digits text ≡ false = digits_left h ∙ ap (λ d. d && all_digits (drop (i + 1) text)) e in
-      sym (some_text text (omega arith) ∙ ap (λ d. cond d (Argument.Number (min most (with_digits 0 text))) Argument.Other) stop)
+      sym (some_text text (omega arith) ∙ ap (λ d. cond d (Some (min most (with_digits 0 text))) None) stop)
 
-  pub reading_ends : length text ≤ i → 0 < length text → n ≤ most → Argument.Number n ≡ argument_of text
+  pub reading_ends : length text ≤ i → 0 < length text → n ≤ most → Some n ≡ argument_of text
   unfolding all_digits with_digits
   reading_ends h some small =
       let none : drop i text ≡ [] = drop_of_length-le text h in
       let all : all_digits text ≡ true = r.digits ∙ ap all_digits none in
       let whole : min most n ≡ n = omega arith in
       let value : min most (with_digits 0 text) ≡ n = r.value ∙ ap (λ t. min most (with_digits n t)) none ∙ whole in
-      sym (some_text text some ∙ ap₂ (λ d m. cond d (Argument.Number m) Argument.Other) all value)
+      sym (some_text text some ∙ ap₂ (λ d m. cond d (Some m) None) all value)
 
-pub no_text : (text : List ℕ) → length text ≡ 0 → Argument.Other ≡ argument_of text
+pub no_text : (text : List ℕ) → length text ≡ 0 → None ≡ argument_of text
 unfolding argument_of is_number
 no_text [] h = refl
 no_text (byte ∷ text) h = absurd (omega arith)
@@ -94,33 +95,24 @@ a_digit byte e =
     (λ m. (l, m)))
 
 -- What is read tells whether a text is a number, and which.
-has_number : Argument → Bool
-has_number (Argument.Number n) = true
-has_number Argument.Other = false
-
-the_number : Argument → ℕ
-the_number (Argument.Number n) = n
-the_number Argument.Other = 0
-
-by_kind : (is_number : Bool) (n : ℕ) → has_number (cond is_number (Argument.Number n) Argument.Other) ≡ is_number
-unfolding has_number
+by_kind : (is_number : Bool) (n : ℕ) → is_some (cond is_number (Some n) None) ≡ is_number
 by_kind true n = refl
 by_kind false n = refl
 
-pub no_number : (text : List ℕ) → argument_of text ≡ Argument.Other → is_number text ≡ false
-unfolding argument_of has_number
-no_number text e = sym (by_kind (is_number text) _) ∙ ap has_number e
+pub no_number : (text : List ℕ) → argument_of text ≡ None → is_number text ≡ false
+unfolding argument_of
+no_number text e = sym (by_kind (is_number text) _) ∙ ap is_some e
 
-module _ (text : List ℕ) (n : ℕ) (e : argument_of text ≡ Argument.Number n) where
+module _ (text : List ℕ) (n : ℕ) (e : argument_of text ≡ Some n) where
   pub a_number : is_number text ≡ true
-  unfolding argument_of has_number
-  a_number = sym (by_kind (is_number text) _) ∙ ap has_number e
+  unfolding argument_of
+  a_number = sym (by_kind (is_number text) _) ∙ ap is_some e
 
   pub its_value : n ≡ min most (number_of text)
-  unfolding argument_of the_number
+  unfolding argument_of
   its_value =
-      let read = Argument.Number (min most (number_of text)) in
-      ap the_number (sym e) ∙ ap (λ is_number. the_number (cond is_number read Argument.Other)) a_number
+      let read = Some (min most (number_of text)) in
+      ap (λ o. unwrap_or o 0) (sym e) ∙ ap (λ is_number. unwrap_or (cond is_number read None) 0) a_number
 
 pub number_digits : (text : List ℕ) → is_number text ≡ true → all_digits text ≡ true
 unfolding is_number

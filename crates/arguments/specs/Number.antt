@@ -1,7 +1,6 @@
 -- A decimal argument.
-use Rattle.std.specs.Prelude.{ℕ, min, Bool, true, false, cond, ◌&&◌, List, [], ◌∷◌, leb}
+use Rattle.std.specs.Prelude.{ℕ, min, Bool, true, false, cond, ◌&&◌, List, [], ◌∷◌, leb, Option, Some, None}
 use Rattle.text.specs.Decimal.{digit, number_of}
-use Rattle.arguments.specs.declared.number.Argument.{Argument}
 
 -- The largest number told, of 32 bits; larger ones are taken as it.
 abbrev pub most : ℕ
@@ -20,5 +19,5 @@ unfoldable pub is_number : List ℕ → Bool
 is_number [] = false
 is_number (byte ∷ text) = all_digits (byte ∷ text)
 
-unfoldable pub argument_of : List ℕ → Argument
-argument_of text = cond (is_number text) (Argument.Number (min most (number_of text))) Argument.Other
+unfoldable pub argument_of : List ℕ → Option ℕ
+argument_of text = cond (is_number text) (Some (min most (number_of text))) None

@@ -1,5 +1,5 @@
 -- The numbers of a range.
-use Rattle.std.specs.Prelude.{ℕ, ◌+◌, ◌-◌, min, cond, ◌&&◌, List, leb, length, get_or}
+use Rattle.std.specs.Prelude.{ℕ, ◌+◌, ◌-◌, min, cond, ◌&&◌, List, leb, length, get_or, Option, Some, None}
 use Rattle.text.specs.Decimal.{digit, number_of}
 use Rattle.arguments.specs.Number.{most, is_number}
 use Rattle.arguments.specs.declared.ranges.Range.{Range}
@@ -16,6 +16,6 @@ digit_at text place = cond (leb (length text) place) 0 (get_or text (length text
 abbrev pub count_of : List ℕ → List ℕ → ℕ
 count_of first last = min longest (number_of last + 1 - number_of first)
 
-unfoldable pub range_of : List ℕ → List ℕ → Range
+unfoldable pub range_of : List ℕ → List ℕ → Option Range
 range_of first last =
-    cond (is_number first && is_number last) (Range.From (min most (number_of first)) (count_of first last)) Range.Other
+    cond (is_number first && is_number last) (Some (record { first = min most (number_of first); count = count_of first last })) None

@@ -12,4 +12,4 @@ pub loop-place-preserved : goal.loop-place-preserved
 loop-place-preserved c =
     let loop = c.loop-place in
     ahead_next _ _ c.requires.0 c.requires.1 loop.ahead loop.place loop.invariant c.loop-place-test.true
-    c.capped-ahead.result (omega arith) (omega arith)
+    c.min-ahead.result (omega arith) (omega arith)

@@ -3,6 +3,3 @@ use Rattle.arguments.proofs.ranges.count.Given as goal
 
 abbrev pub invariant-loop-place : goal.invariant-loop-place
 invariant-loop-place l = Ahead l.first l.last l.ahead l.place
-
-abbrev pub decreases-loop-place : goal.decreases-loop-place
-decreases-loop-place l = l.place

@@ -3,8 +3,8 @@ use Rattle.std.proofs.Common.{arith, sym}
 use Rattle.arguments.proofs.Places.{digit_byte, the_digit}
 use Rattle.arguments.proofs.ranges.digit_at.Goals as goal
 
-pub overflow_sub-result : goal.overflow_sub-result
-overflow_sub-result c = omega (arith, digit_byte c.args.text.now c.args.place c.requires c.if-text-place.false)
+pub overflow_sub-result-3 : goal.overflow_sub-result-3
+overflow_sub-result-3 c = omega (arith, digit_byte c.args.text.now c.args.place c.requires c.if-text-place.false)
 
 pub returns : goal.returns
 returns c =

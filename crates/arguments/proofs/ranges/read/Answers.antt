@@ -1,19 +1,16 @@
 -- By what the two texts are read as.
-use Rattle.std.proofs.Common.{sym, ◌∙◌}
+use Rattle.std.proofs.Common.{rules}
 use Rattle.arguments.proofs.RangeCases.{no_first, no_last, range_digits, a_range}
 use Rattle.arguments.proofs.ranges.read.Goals as goal
 
-pub returns-in_default : goal.returns-in_default
-returns-in_default c = no_first _ _ (sym c.read.ensures ∙ c.in_default.is)
+pub returns-in_err-start : goal.returns-in_err-start
+returns-in_err-start c = search (rules, no_first)
 
-pub returns-in_default-read : goal.returns-in_default-read
-returns-in_default-read c = no_last _ _ (sym c.read-2.ensures ∙ c.in_default-read.is)
+pub returns-in_err-read : goal.returns-in_err-read
+returns-in_err-read c = search (rules, no_last)
 
 pub count-requires : goal.count-requires
-count-requires c =
-    range_digits _ _ _ _ (sym c.read.ensures ∙ c.in-Number.is) (sym c.read-2.ensures ∙ c.in-Number-read.is)
+count-requires c = search (rules, range_digits)
 
 pub returns : goal.returns
-returns c =
-    a_range _ _ _ _ (sym c.read.ensures ∙ c.in-Number.is) (sym c.read-2.ensures ∙ c.in-Number-read.is)
-    c.count.result c.count.ensures
+returns c = search (rules, a_range)
