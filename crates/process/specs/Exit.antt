@@ -1,5 +1,7 @@
 -- Exit statuses.
 use Rattle.std.specs.Prelude.{ℕ, ◌≤◌}
+use Rattle.process.specs.declared.exit.Status.{Status}
+use Rattle.process.specs.declared.exit.Status.TheVariants.{Answered, Failed, Misused}
 
 -- All that was read was answered, or renewed.
 abbrev pub answered : ℕ
@@ -13,10 +15,16 @@ failed = 1
 abbrev pub misused : ℕ
 misused = 2
 
+-- The number of a status.
+abbrev pub number : Status → ℕ
+number Answered = answered
+number Failed = failed
+number Misused = misused
+
 -- Either of the first two: the system decides which, and what was read.
-abbrev pub AnsweredOrFailed : ℕ → Type 0
-AnsweredOrFailed status = status ≤ failed
+abbrev pub AnsweredOrFailed : Status → Type 0
+AnsweredOrFailed status = number status ≤ failed
 
 -- What a program ends with: one of the three.
-abbrev pub Ended : ℕ → Type 0
-Ended status = status ≤ misused
+abbrev pub Ended : Status → Type 0
+Ended status = number status ≤ misused

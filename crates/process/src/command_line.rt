@@ -3,25 +3,28 @@ ghost use Rattle.std.specs.Prelude.{◌≤◌, length};
 ghost use Rattle.process.specs.CommandLine.{RepliedTo, Replied};
 
 use crate::exit;
+use crate::exit::Status;
 use crate::streams::Streams;
 use arguments::options;
 use arguments::options::Wish;
 use std::env::{Env, FillError};
 
-// The program is to run, or it was asked for something else and ends with this status.
-#[derive(Clone, Copy)]
-pub enum Asked {
-    Run,
-    Done(u32),
+// What a program tells of itself: its name and version, its help, and how it is used.
+#[derive(Clone, Copy, Debug)]
+pub struct Program<'a> {
+    pub name: &'a [u8],
+    pub version: &'a [u8],
+    pub help: &'a [u8],
+    pub usage: &'a [u8],
 }
 
-// Word i of the command line at the start of the text, and its length; 0 where it is missing or longer than the text.
-pub fn word<R: Env>(rt: &R, i: usize, text: &mut [u8]) -> usize
-    ensures { result ≤ length text.new }
+// Word i of the command line, copied to the start of the text; no bytes where it is missing or longer than the text.
+pub fn word<'a, R: Env>(rt: &R, i: usize, text: &'a mut [u8]) -> &'a [u8]
+    ensures { length result.now ≤ length text.old }
 {
     match rt.arg(i, text) {
-        Ok(n) => n,
-        Err(_) => 0,
+        Ok(n) => &text[..n],
+        Err(_) => &[],
     }
 }
 
@@ -32,58 +35,36 @@ fn has_word<R: Env>(rt: &R, i: usize) -> bool {
 
 // How many words the command line has; the first is the program's name.
 pub fn word_count<R: Env>(rt: &R) -> usize {
-    for i in 0..usize::MAX {
-        if !has_word(rt, i) {
-            return i;
-        }
-    }
-    usize::MAX
+    (0..usize::MAX).take_while(|i| has_word(rt, *i)).count()
 }
 
 // What the first argument asks for.
 fn wish<R: Env>(rt: &R) -> Wish {
     let mut text = [0u8; 4096];
-    let n = word(rt, 1, &mut text);
-    options::read(&text[..n])
+    options::read(word(rt, 1, &mut text))
 }
 
-// Replies to a wish with the program's help, or its name and version, and to any other with its usage; `what` names
-// standard output where that fails.
-fn reply_to(
-    streams: &mut Streams,
-    wish: Wish,
-    program: &[u8],
-    version: &[u8],
-    help: &[u8],
-    usage: &[u8],
-    what: &[u8],
-) -> Asked
+// Replies to a wish with the program's help, or its name and version, and to any other with its usage.
+pub fn reply_to(streams: &mut Streams, wish: Wish, program: &Program) -> Status
     ensures { RepliedTo wish result }
 {
     match wish {
-        Wish::Help => Asked::Done(exit::reply(streams, help, what)),
-        Wish::Version => Asked::Done(exit::reply_version(streams, program, version, what)),
-        Wish::Other => Asked::Done(exit::misuse(streams, usage)),
+        Wish::Help => exit::reply(streams, program.name, program.help),
+        Wish::Version => exit::reply_version(streams, program.name, program.version),
+        Wish::Other => exit::misuse(streams, program.usage),
     }
 }
 
-// Replies to an option, and to more arguments than one with the usage; without any the program is to run.
-pub fn reply<R: Env>(
-    rt: &R,
-    streams: &mut Streams,
-    program: &[u8],
-    version: &[u8],
-    help: &[u8],
-    usage: &[u8],
-    what: &[u8],
-) -> Asked
+// Replies to an option, and to more arguments than one with the usage, and gives the status that the program ends with;
+// none where there is no argument, so that it is to run.
+pub fn reply<R: Env>(rt: &R, streams: &mut Streams, program: &Program) -> Option<Status>
     ensures { Replied result }
 {
     if !has_word(rt, 1) {
-        return Asked::Run;
+        return None;
     }
     if has_word(rt, 2) {
-        return Asked::Done(exit::misuse(streams, usage));
+        return Some(exit::misuse(streams, program.usage));
     }
-    reply_to(streams, wish(rt), program, version, help, usage, what)
+    Some(reply_to(streams, wish(rt), program))
 }

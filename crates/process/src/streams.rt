@@ -1,16 +1,23 @@
 // Standard input and output and standard error, a failure told apart from the end. A call that a signal interrupts is
 // made again. What a call reads or writes is the system's, and no contract can say it.
-ghost use Rattle.std.specs.Prelude.{◌≡◌, ℕ, true, pos, ◌<◌, ◌≤◌, length, slice_index};
+ghost use Rattle.std.specs.Prelude.{◌≡◌, ℕ, ◌<◌, ◌≤◌, length, slice_index, IfOk, IsOk};
 
+use std::io;
 use std::io::{Cursor, Error, ErrorKind, Read, Stderr, Stdin, Stdout, Write};
 
-// The three streams, and the system's number for why the last call that failed did so: 0 where none has failed.
+// The three streams.
 #[derive(Drop)]
 pub struct Streams {
     input: Stdin,
     output: Stdout,
     errors: Stderr,
-    errno: i32,
+}
+
+// Why a program cannot go on: a read of standard input or a write to standard output failed.
+#[derive(Clone, Copy, Debug)]
+pub enum Failure {
+    Input(Error),
+    Output(Error),
 }
 
 // Room for what is read or written.
@@ -21,107 +28,60 @@ pub fn zeros<const N: usize>() -> [u8; N]
     [0; N]
 }
 
-// What a read gave: so many bytes, none at the end of the input; or it failed, and errno tells why.
-#[derive(Clone, Copy)]
-pub struct Got {
-    pub failed: bool,
-    pub count: usize,
-}
-
-// None of them has failed yet.
+// The streams of a program.
 pub fn open(input: Stdin, output: Stdout, errors: Stderr) -> Streams
-    ensures { result ≡ record { input = input; output = output; errors = errors; errno = pos 0 } }
+    ensures { result ≡ record { input = input; output = output; errors = errors } }
 {
     Streams {
         input: input,
         output: output,
         errors: errors,
-        errno: 0,
     }
 }
 
-// Whether a call that gave this error was interrupted before it did anything. The error's number is kept.
-fn is_interrupted(error: Error, errno: &mut i32) -> bool {
-    *errno = error.raw_os_error().unwrap_or(0);
-    error.kind() == ErrorKind::Interrupted
-}
-
-// Reads once into a buffer that has room. A proved loop has to end, so it counts its tries.
-pub fn read(streams: &mut Streams, buffer: &mut [u8]) -> Got
-    ensures { result.count ≤ length buffer.new }
+// Reads once into a buffer that has room, and gives how many bytes; none at the end of the input. A proved loop has to
+// end, so it counts its tries.
+pub fn read(streams: &mut Streams, buffer: &mut [u8]) -> Result<usize, Failure>
+    ensures { IfOk result (λ count. count ≤ length buffer.new) }
 {
     for _ in 0..u64::MAX {
         match streams.input.read(buffer) {
-            Ok(count) => {
-                return Got {
-                    failed: false,
-                    count: count,
-                };
-            }
-            Err(error) => {
-                if !is_interrupted(error, &mut streams.errno) {
-                    break;
-                }
-            }
+            Ok(count) => return Ok(count),
+            Err(error) if error.kind() == ErrorKind::Interrupted => {}
+            Err(error) => return Err(Failure::Input(error)),
         }
     }
-    Got {
-        failed: true,
-        count: 0,
-    }
+    Err(Failure::Input(Error::from(ErrorKind::TimedOut)))
 }
 
-// Writes some of the text, and gives how many bytes; 0 where that failed.
-fn write_some<W: Write>(stream: &mut W, errno: &mut i32, text: &[u8]) -> usize
-    ensures { result ≤ length text.now }
+// Writes all of the text; no text can always be written. After a failure some of it may have been written.
+pub fn write_to<W: Write>(stream: &mut W, text: &[u8]) -> io::Result<()>
+    ensures { length text.now ≡ 0 → IsOk result }
 {
-    for _ in 0..u64::MAX {
-        match stream.write(text) {
-            Ok(count) => return count,
-            Err(error) => {
-                if !is_interrupted(error, errno) {
-                    break;
-                }
-            }
-        }
+    if text.is_empty() {
+        return Ok(());
     }
-    0
-}
-
-// Writes all of the text, and says whether it could; no text can always be written. After a failure, which errno tells,
-// some of it may have been written.
-pub fn write_to<W: Write>(stream: &mut W, errno: &mut i32, text: &[u8]) -> bool
-    ensures { length text.now ≡ 0 → result ≡ true }
-{
-    let mut done = 0;
-    while done < text.len() {
-        let n = write_some(stream, errno, &text[done..]);
-        if n == 0 {
-            return false;
-        }
-        done += n;
-    }
-    true
+    stream.write_all(text)
 }
 
 // The same to standard output.
-pub fn write(streams: &mut Streams, text: &[u8]) -> bool
-    ensures { length text.now ≡ 0 → result ≡ true }
+pub fn write(streams: &mut Streams, text: &[u8]) -> Result<(), Failure>
+    ensures { length text.now ≡ 0 → IsOk result }
 {
-    write_to(&mut streams.output, &mut streams.errno, text)
+    write_to(&mut streams.output, text).map_err(Failure::Output)
 }
 
 // The same to standard error.
-pub fn write_error(streams: &mut Streams, text: &[u8]) -> bool
-    ensures { length text.now ≡ 0 → result ≡ true }
+pub fn write_error(streams: &mut Streams, text: &[u8]) -> io::Result<()>
+    ensures { length text.now ≡ 0 → IsOk result }
 {
-    write_to(&mut streams.errors, &mut streams.errno, text)
+    write_to(&mut streams.errors, text)
 }
 
-// The error of the last call that failed as std tells it: the system's words, and its number, as in
-// `No space left on device (os error 28)`.
-fn told(errno: i32) -> [u8; 256] {
-    let error = Error::from_raw_os_error(errno);
+// The system's error as std tells it: the system's words, and its number, as in
+// `No space left on device (os error 28)`. An error that is not the system's has the number 0.
+fn told(error: Error) -> [u8; 256] {
+    let error = Error::from_raw_os_error(error.raw_os_error().unwrap_or(0));
     let mut text = Cursor::new([0u8; 256]);
     let _ = write!(text, "{error}");
     text.into_inner()
@@ -137,9 +97,9 @@ fn end_of_words(text: &[u8]) -> usize
     }
 }
 
-// Puts the system's words for why the last call that failed did so into a line.
-pub(crate) fn reason(streams: &Streams, line: &mut [u8], at: usize) -> usize {
-    let text = told(streams.errno);
+// Puts the system's words for an error into a line.
+pub(crate) fn reason(error: Error, line: &mut [u8], at: usize) -> usize {
+    let text = told(error);
     let end = end_of_words(&text);
     text::word(line, at, &text[..end])
 }

@@ -1,3 +1,0 @@
--- Proofs that serve several functions.
--- What is replied to a wish.
-pub mod Replies
