@@ -1,13 +1,12 @@
 // What is asked of each number of a range, written through one buffer.
-ghost use Rattle.std.specs.Prelude.{◌≡◌, ◌+◌, ◌≤◌, min, length};
-ghost use Rattle.arguments.specs.Number.{most};
-ghost use Rattle.process.specs.Exit.{AnsweredOrFailed};
+ghost use Rattle.std.specs.Prelude.{◌+◌, ◌≤◌, length};
 ghost use Rattle.text.specs.Wrote.{Wrote};
 ghost use Rattle.almanac_run.specs.Pages.{system_page, requested_page, FilledWith};
 
+use arguments::ranges::Range;
 use calendar::data::RegisterDay;
-use process::streams::{Streams, zeros};
-use process::{exit, streams};
+use process::streams;
+use process::streams::{Failure, Streams, zeros};
 use solar_inequality::data::Season;
 
 // What is printed by one system: the page of a year, that of a year's pentads, the line of the pentad in force on a
@@ -22,7 +21,7 @@ pub(crate) enum Page {
 }
 
 // What is printed of each number: a page by a system, two systems compared, or the line of the sun's excess or shortfall
-// so many days after a solstice.
+// so many days after a solstice. It is a value and no closure, so that `requested_page` can say what is printed.
 #[derive(Clone, Copy)]
 pub(crate) enum Request {
     BySystem(Page, u32),
@@ -36,13 +35,6 @@ struct Filled {
     pages: u64,
     next: u32,
     end: usize,
-}
-
-// The number after, as a number is told: past the largest it stays, which is refused as those past it would be.
-fn number_after(n: u32) -> u32
-    ensures { result ≡ min most (n + 1) }
-{
-    if n < u32::MAX { n + 1 } else { n }
 }
 
 fn system_page(out: &mut [u8], at: usize, page: Page, system: u32, n: u32) -> usize
@@ -71,60 +63,48 @@ fn requested_page(out: &mut [u8], at: usize, request: Request, n: u32) -> usize
 }
 
 // Puts the pages of up to `count` numbers from the first on into a buffer, while it has room for one more, 8192 bytes.
+// Past the largest number that is told it stays at that one, which is refused as those past it would be.
 fn fill(out: &mut [u8], request: Request, first: u32, count: u64) -> Filled
     ensures { FilledWith request first count out.old out.new result }
 {
-    let mut pages = 0;
     let mut next = first;
     let mut end = 0;
-    while pages < count {
+    for pages in 0..count {
         if out.len() - end < 8192 {
-            return Filled {
-                pages: pages,
-                next: next,
-                end: end,
-            };
+            return Filled { pages, next, end };
         }
         end = requested_page(out, end, request, next);
-        next = number_after(next);
-        pages += 1;
+        next = next.saturating_add(1);
     }
     Filled {
-        pages: pages,
-        next: next,
-        end: end,
+        pages: count,
+        next,
+        end,
     }
 }
 
-// Buffer after buffer, and the exit status. A write that fails ends it.
+// Buffer after buffer. A write that fails ends it.
 fn write_pages(
     streams: &mut Streams,
     out: &mut [u8],
     request: Request,
-    first: u32,
-    count: u64,
-) -> u32
+    range: Range,
+) -> Result<(), Failure>
     requires { 8192 ≤ length out.old }
-    ensures { AnsweredOrFailed result }
 {
-    let mut next = first;
-    let mut left = count;
+    let mut next = range.first;
+    let mut left = range.count;
     while 0 < left {
         let filled = fill(out, request, next, left);
-        let end = filled.end;
-        if !streams::write(streams, &out[..end]) {
-            return exit::fail(streams, b"almanac: standard output");
-        }
+        streams::write(streams, &out[..filled.end])?;
         next = filled.next;
         left -= filled.pages;
     }
-    exit::ANSWERED
+    Ok(())
 }
 
-// The pages of so many numbers from the first on.
-pub(crate) fn pages(streams: &mut Streams, request: Request, first: u32, count: u64) -> u32
-    ensures { AnsweredOrFailed result }
-{
+// What is asked of each number of a range.
+pub(crate) fn pages(streams: &mut Streams, request: Request, range: Range) -> Result<(), Failure> {
     let mut buffer = zeros::<65536>();
-    write_pages(streams, &mut buffer, request, first, count)
+    write_pages(streams, &mut buffer, request, range)
 }

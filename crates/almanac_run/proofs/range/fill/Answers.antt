@@ -8,4 +8,4 @@ loop-pages-init c = (omega arith, filling_starts _ _ _ (omega arith))
 
 pub loop-pages-preserved : goal.loop-pages-preserved
 loop-pages-preserved c =
-    (omega arith, filling_more c.loop-pages.invariant.1 c.requested_page-end.ensures (omega arith) c.number_after-next.ensures)
+    (omega arith, filling_more c.loop-pages.invariant.1 c.requested_page-end.ensures (omega arith) (omega arith))
