@@ -7,5 +7,5 @@ use std::process::ExitCode;
 
 fn main(rt: HostRuntime) -> ExitCode {
     let mut streams = streams::open(rt.stdin(), rt.stdout(), rt.stderr());
-    exit::code(renew_run(&rt, &mut streams, process::VERSION))
+    exit::code(renew_run(&rt, &mut streams, process::VERSION).number())
 }

@@ -2,13 +2,14 @@
 // moved between that and the system.
 #![tactic(auto)]
 
-ghost use Rattle.std.specs.Prelude.{◌≡◌, ◌<◌, ◌≤◌, true, false, length, take, if◌then◌else◌, nat_eq};
-ghost use Rattle.process.specs.Exit.{failed, AnsweredOrFailed, Ended};
+ghost use Rattle.std.specs.Prelude.{◌≡◌, ◌<◌, ◌≤◌, length, take, if◌then◌else◌, nat_eq, IfOk};
+ghost use Rattle.process.specs.Exit.{AnsweredOrFailed, Ended};
 ghost use Rattle.renew_run.specs.Stepped.{Stepped, ReadAndRenewed};
 
 use framing::keep;
-use process::command_line::Asked;
-use process::streams::{Streams, zeros};
+use process::command_line::Program;
+use process::exit::Status;
+use process::streams::{Failure, Streams, zeros};
 use process::{command_line, exit, streams};
 use std::env::Env;
 use telling::tell_refused;
@@ -17,41 +18,17 @@ use turn::renew;
 mod telling;
 mod turn;
 
-// How a step ended: whether a call of the system failed, and if not, whether the run goes on, whether the input has
-// ended, how many bytes are left and how many the records had, and whether one of them was refused.
+const NAME: &[u8] = b"chiselbrow-renew";
+
+// How a step ended: whether the run goes on, whether the input has ended, how many bytes are left and how many the
+// records had, and whether one of them was refused.
 #[derive(Clone, Copy)]
 struct Step {
-    failed: bool,
     more: bool,
     ended: bool,
     left: usize,
     read: usize,
     refused: bool,
-}
-
-fn input_failed(streams: &mut Streams) -> u32
-    ensures { result ≡ failed }
-{
-    exit::fail(streams, b"chiselbrow-renew: standard input")
-}
-
-fn output_failed(streams: &mut Streams) -> u32
-    ensures { result ≡ failed }
-{
-    exit::fail(streams, b"chiselbrow-renew: standard output")
-}
-
-fn failed_step() -> Step
-    ensures { result ≡ record { failed = true; more = false; ended = false; left = 0; read = 0; refused = false } }
-{
-    Step {
-        failed: true,
-        more: false,
-        ended: false,
-        left: 0,
-        read: 0,
-        refused: false,
-    }
 }
 
 // Tells the records that were refused, where one was.
@@ -62,62 +39,53 @@ fn tell_if(streams: &mut Streams, refused: bool, renewed: &[u8], offset: u64) {
 }
 
 // Renews the records among these bytes, writes them, and moves what is left to the front.
-fn renew_and_write(streams: &mut Streams, bytes: &mut [u8], ended: bool, offset: u64) -> Step
+fn renew_and_write(
+    streams: &mut Streams,
+    bytes: &mut [u8],
+    ended: bool,
+    offset: u64,
+) -> Result<Step, Failure>
     ensures { Stepped ended bytes.old bytes.new result }
 {
     let t = renew(bytes, ended);
     tell_if(streams, t.refused, bytes, offset);
-    let written = t.written;
-    if !streams::write(streams, &bytes[..written]) {
-        output_failed(streams);
-        return failed_step();
-    }
+    streams::write(streams, &bytes[..t.written])?;
     let read = t.read;
     keep(bytes, read);
-    Step {
-        failed: false,
+    Ok(Step {
         more: t.more,
-        ended: ended,
+        ended,
         left: bytes.len() - read,
-        read: read,
+        read,
         refused: t.refused,
-    }
+    })
 }
 
 // Reads once after the bytes that were kept, and renews.
-fn read_and_renew(streams: &mut Streams, buffer: &mut [u8], kept: usize, offset: u64) -> Step
+fn read_and_renew(
+    streams: &mut Streams,
+    buffer: &mut [u8],
+    kept: usize,
+    offset: u64,
+) -> Result<Step, Failure>
     requires { (kept < 64) × (64 ≤ length buffer.old) }
     ensures { ReadAndRenewed (take kept buffer.old) buffer.new result }
 {
-    let got = streams::read(streams, &mut buffer[kept..]);
-    if got.failed {
-        input_failed(streams);
-        return failed_step();
-    }
-    let filled = kept + got.count;
-    renew_and_write(streams, &mut buffer[..filled], got.count == 0, offset)
+    let count = streams::read(streams, &mut buffer[kept..])?;
+    let filled = kept + count;
+    renew_and_write(streams, &mut buffer[..filled], count == 0, offset)
 }
 
 // Writes all further input as it is. A proved loop has to end, so it counts its turns.
-fn copy(streams: &mut Streams, buffer: &mut [u8]) -> u32
-    ensures { result ≡ failed }
-{
-    let mut turns = u64::MAX;
-    while 0 < turns {
-        let got = streams::read(streams, buffer);
-        let count = got.count;
-        if got.failed {
-            return input_failed(streams);
-        }
+fn copy(streams: &mut Streams, buffer: &mut [u8]) -> Result<(), Failure> {
+    for _ in 0..u64::MAX {
+        let count = streams::read(streams, buffer)?;
         if count == 0 {
-            return exit::FAILED;
+            break;
         }
-        if !streams::write(streams, &buffer[..count]) {
-            return output_failed(streams);
-        }
-        turns -= 1;
+        streams::write(streams, &buffer[..count])?;
     }
-    exit::FAILED
+    Ok(())
 }
 
 // The status of a run that stopped with so many bytes left, which were written as they are. Unless the input has ended,
@@ -128,71 +96,70 @@ fn stop(
     left: usize,
     ended: bool,
     offset: u64,
-    status: u32,
-) -> u32
+    status: Status,
+) -> Result<Status, Failure>
     requires { AnsweredOrFailed status }
-    ensures { (result ≡ (if nat_eq left 0 then status else failed)) × AnsweredOrFailed result }
+    ensures { IfOk result
+        (λ r. (r ≡ (if nat_eq left 0 then status else Status.Failed)) × AnsweredOrFailed r) }
 {
     if left == 0 {
-        return status;
+        return Ok(status);
     }
-    exit::stopped(
+    let stopped = exit::stopped(
         streams,
         b"chiselbrow-renew: standard input: no record at byte ",
         left,
         offset,
     );
-    if ended {
-        return exit::FAILED;
+    if !ended {
+        copy(streams, buffer)?;
     }
-    copy(streams, buffer)
+    Ok(stopped)
 }
 
 // The status after a step with a record that was refused, or with none.
-fn after_step(status: u32, refused: bool) -> u32
+fn after_step(status: Status, refused: bool) -> Status
     requires { AnsweredOrFailed status }
-    ensures { (result ≡ (if refused then failed else status)) × AnsweredOrFailed result }
+    ensures { (result ≡ (if refused then Status.Failed else status)) × AnsweredOrFailed result }
 {
     if refused {
-        return exit::FAILED;
+        return Status::Failed;
     }
     status
 }
 
 // Step after step.
-fn renew_input(streams: &mut Streams, buffer: &mut [u8]) -> u32
+fn renew_input(streams: &mut Streams, buffer: &mut [u8]) -> Result<Status, Failure>
     requires { 64 ≤ length buffer.old }
-    ensures { AnsweredOrFailed result }
+    ensures { IfOk result (λ status. AnsweredOrFailed status) }
 {
     let mut kept = 0;
-    let mut offset = 0;
-    let mut status = exit::ANSWERED;
-    let mut turns = u64::MAX;
-    while 0 < turns {
-        let s = read_and_renew(streams, buffer, kept, offset);
-        if s.failed {
-            return exit::FAILED;
+    let mut offset: u64 = 0;
+    let mut status = Status::Answered;
+    for _ in 0..u64::MAX {
+        let step = read_and_renew(streams, buffer, kept, offset)?;
+        offset = offset.wrapping_add(step.read as u64);
+        status = after_step(status, step.refused);
+        if !step.more {
+            return stop(streams, buffer, step.left, step.ended, offset, status);
         }
-        offset = std::num::wrapping_add_u64(offset, s.read as u64);
-        status = after_step(status, s.refused);
-        if !s.more {
-            return stop(streams, buffer, s.left, s.ended, offset, status);
-        }
-        kept = s.left;
-        turns -= 1;
+        kept = step.left;
     }
-    exit::FAILED
+    Ok(Status::Failed)
 }
 
-fn renew_all(streams: &mut Streams) -> u32
+fn renew_all(streams: &mut Streams) -> Status
     ensures { AnsweredOrFailed result }
 {
     let mut buffer = zeros::<65536>();
-    renew_input(streams, &mut buffer)
+    match renew_input(streams, &mut buffer) {
+        Ok(status) => status,
+        Err(failure) => exit::fail(streams, NAME, failure),
+    }
 }
 
 // Does what the arguments ask, and gives the exit status.
-pub fn renew_run<R: Env>(rt: &R, streams: &mut Streams, version: &[u8]) -> u32
+pub fn renew_run<R: Env>(rt: &R, streams: &mut Streams, version: &[u8]) -> Status
     ensures { Ended result }
 {
     let help = b"chiselbrow-renew [--help | --version] < records > renewed\n\
@@ -204,18 +171,14 @@ pub fn renew_run<R: Env>(rt: &R, streams: &mut Streams, version: &[u8]) -> u32
         length or its name, and bytes that are no record, stay as they are and are told\n\
         on standard error. The manual page chiselbrow-renew(1) tells the records and\n\
         the exit status.\n";
-    let usage = b"usage: chiselbrow-renew [--help | --version] < records > renewed\n";
-    let asked = command_line::reply(
-        rt,
-        streams,
-        b"chiselbrow-renew",
+    let program = Program {
+        name: NAME,
         version,
         help,
-        usage,
-        b"chiselbrow-renew: standard output",
-    );
-    let Asked::Done(status) = asked else {
-        return renew_all(streams);
+        usage: b"usage: chiselbrow-renew [--help | --version] < records > renewed\n",
     };
-    status
+    match command_line::reply(rt, streams, &program) {
+        Some(status) => status,
+        None => renew_all(streams),
+    }
 }
