@@ -13,11 +13,9 @@ pub enum Wish {
 pub fn read(text: &[u8]) -> Wish
     ensures { Reads text.now result }
 {
-    if text == b"--help".as_slice() {
-        return Wish::Help;
+    match text {
+        b"--help" => Wish::Help,
+        b"--version" => Wish::Version,
+        _ => Wish::Other,
     }
-    if text == b"--version".as_slice() {
-        return Wish::Version;
-    }
-    Wish::Other
 }

@@ -52,16 +52,12 @@ pub fn fail(streams: &mut Streams, program: &[u8], failure: Failure) -> Status
 {
     let mut line = [0u8; 512];
     let at = text::word(&mut line, 0, program);
-    let at = match failure {
-        Failure::Input(error) => {
-            let at = text::word(&mut line, at, b": standard input: ");
-            streams::reason(error, &mut line, at)
-        }
-        Failure::Output(error) => {
-            let at = text::word(&mut line, at, b": standard output: ");
-            streams::reason(error, &mut line, at)
-        }
+    let (stream, error) = match failure {
+        Failure::Input(error) => (b": standard input: ".as_slice(), error),
+        Failure::Output(error) => (b": standard output: ".as_slice(), error),
     };
+    let at = text::word(&mut line, at, stream);
+    let at = streams::reason(error, &mut line, at);
     let at = text::word(&mut line, at, b"\n");
     tell(streams, &line, at)
 }
