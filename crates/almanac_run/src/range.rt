@@ -84,6 +84,7 @@ fn fill(out: &mut [u8], request: Request, first: u32, count: u64) -> Filled
 }
 
 // Buffer after buffer. A write that fails ends it.
+#[tactic(auto, using(crate::proofs::Filling::fewer))]
 fn write_pages(
     streams: &mut Streams,
     out: &mut [u8],

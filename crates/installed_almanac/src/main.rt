@@ -1,4 +1,4 @@
-// The program almanac, as it is installed.
+// The program almanac, as it is installed. Each program is a crate with a `main` of its own.
 #![tactic(auto)]
 
 use almanac_run::almanac_run;

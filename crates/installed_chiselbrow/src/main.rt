@@ -1,4 +1,4 @@
-// The program chiselbrow, as it is installed.
+// The program chiselbrow, as it is installed. Each program is a crate with a `main` of its own.
 #![tactic(auto)]
 
 use chiselbrow_run::chiselbrow_run;
