@@ -184,10 +184,8 @@ fn fields(out: &mut [u8], start: usize, numbers: &[u32]) -> usize
         × (result ≤ start + 11 * length numbers.now) }
 {
     let mut at = start;
-    let mut i = 0;
-    while i < numbers.len() {
-        at = small_field(out, at, numbers[i]);
-        i += 1;
+    for n in numbers {
+        at = small_field(out, at, *n);
     }
     at
 }
@@ -197,12 +195,9 @@ pub(crate) fn word(out: &mut [u8], at: usize, bytes: &[u8]) -> usize
     requires { at + length bytes.now ≤ length out.old }
     ensures { Wrote out.old at (word bytes.now) out.new result × (result ≤ at + length bytes.now) }
 {
-    let mut i = 0;
-    while i < bytes.len() {
-        out[at + i] = bytes[i];
-        i += 1;
-    }
-    at + i
+    let end = at + bytes.len();
+    out[at..end].copy_from_slice(bytes);
+    end
 }
 
 // A word and a number after it.
