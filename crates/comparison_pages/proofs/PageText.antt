@@ -1,9 +1,10 @@
 -- The page of a comparison from its lines.
-use Prim.Native.Nat.{ℕ, ◌+◌, ◌≤◌}
+use Prim.Native.Nat.{ℕ, ◌+◌, ◌≤◌, ◌<◌}
 use mathlib.Core.Path.{◌≡◌, refl, subst, sym, ap, ap₂, ◌∙◌}
 use mathlib.Core.List.{List, [], ◌∷◌, ◌++◌, append-nil}
 use native.Mathlib.Omega.{arith}
-use lib.ListN.{length, get_or}
+use lib.ListN.{length, take, get_or}
+use Rattle.std.proofs.lemmas.List.{get_or-take}
 use Rattle.reckoning.specs.declared.data.Year.{Year}
 use Rattle.reckoning.specs.Requests.{year_of}
 use Rattle.comparison.specs.declared.data.Comparison.{Comparison}
@@ -35,18 +36,15 @@ wrote_compare_line first second n places w near room y c =
     let v = put_wrote y (omega (arith, w.same_length)) in
     wrote_then w (wrote_then v (put_wrote c (omega (arith, w.same_length, v.same_length, y.near))))
 
--- The lines of places, one more and all.
-module _ {b a : List ℕ} {at e : ℕ} (first second : Year) (compared : Comparison) where
-  pub wrote_more_places : {m : List ℕ} {p : ℕ} (i : ℕ) → Wrote b at (texts_up_to (place_at first second compared) i) m p
-      → Wrote m p (place_line first second (get_or compared.places i unused)) a e
-      → Wrote b at (texts_up_to (place_at first second compared) (i + 1)) a e
-  wrote_more_places i w v = wrote_one_more (place_at first second compared) i w v
-
-  pub wrote_all_places : (count i : ℕ) → count ≡ compared.count → i ≤ count → count ≤ i
-      → Wrote b at (texts_up_to (place_at first second compared) i) a e → Wrote b at (place_lines first second compared) a e
-  unfolding place_lines
-  wrote_all_places count i is l h w =
-      let all : i ≡ compared.count = omega arith in wrote_as (ap (texts_up_to (place_at first second compared)) all) w
+-- A place's line more.
+pub wrote_more_places : {b m a : List ℕ} {at p e : ℕ} (first second : Year) (compared : Comparison) (i : ℕ)
+    → Wrote b at (texts_up_to (place_at first second compared) i) m p
+    → Wrote m p (place_line first second (get_or (take compared.count compared.places) i unused)) a e
+    → i < compared.count
+    → Wrote b at (texts_up_to (place_at first second compared) (i + 1)) a e
+wrote_more_places first second compared i w v more =
+    wrote_one_more (place_at first second compared) i w
+    (wrote_as (ap (place_line first second) (get_or-take compared.count compared.places i unused more)) v)
 
 -- The whole page: of a comparison answered, and of one refused.
 abbrev told : ℕ → ℕ → ℕ → Comparison → List ℕ

@@ -4,7 +4,8 @@ use mathlib.Core.Path.{◌≡◌, subst, sym, ap, ◌∙◌}
 use native.Mathlib.Omega.{arith}
 use lib.Dec.{ltb}
 use lib.IntN.{ℤ, pos, negsuc, nat_abs, ◌+ℤ◌, pos-ne-negsuc}
-use lib.ListN.{get_or}
+use lib.ListN.{take, get_or}
+use Rattle.std.proofs.lemmas.List.{get_or-take}
 use borrow.Author.Tests.{ltb-false}
 use Rattle.calendar.proofs.Cases.{by_bool}
 use Rattle.reckoning.specs.Scope.{InScope}
@@ -65,6 +66,7 @@ printable first second n is none =
     subst Printable (sym is)
     (answered first second n (first_in_scope first second n accepted) (second_in_scope first second n accepted))
 
-pub place_printable : {compared : Comparison} {i count : ℕ} → Printable compared → count ≡ compared.count → i < count
-    → PlacePrintable (get_or compared.places i unused)
-place_printable {compared} {i} p is h = p.place i (omega arith)
+pub place_printable : {compared : Comparison} {i : ℕ} → Printable compared → i < compared.count
+    → PlacePrintable (get_or (take compared.count compared.places) i unused)
+place_printable {compared} {i} p h =
+    subst PlacePrintable (sym (get_or-take compared.count compared.places i unused h)) (p.place i h)

@@ -40,13 +40,9 @@ fn place_lines(
     requires { (start + 975 ≤ length out.old) × Printable compared }
     ensures { Wrote out.old start (place_lines first second compared) out.new result × (result ≤ start + 975) }
 {
-    let count = compared.count as usize;
     let mut at = start;
-    let mut i = 0;
-    while i < count {
-        let listed = compared.places[i];
-        at = place::line(out, at, first, second, listed);
-        i += 1;
+    for listed in &compared.places[..compared.count as usize] {
+        at = place::line(out, at, first, second, *listed);
     }
     at
 }

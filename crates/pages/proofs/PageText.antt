@@ -1,12 +1,11 @@
 -- The text of a page from its pieces.
 use Prim.Native.Nat.{ℕ, ◌+◌, ◌*◌, ◌≤◌, ◌<◌}
 use mathlib.Core.Path.{◌≡◌, refl, subst, ap, ap₂}
-use mathlib.Core.Bool.{Bool}
+use Rattle.std.specs.Prelude.{Option}
 use mathlib.Core.List.{List, [], ◌∷◌, ◌++◌}
 use native.Mathlib.Omega.{arith}
-use lib.Dec.{eqb}
-use lib.ListN.{length}
-use Rattle.calendar.specs.Month.{none_held}
+use lib.ListN.{length, take, get_or}
+use Rattle.std.proofs.lemmas.List.{get_or-take}
 use Rattle.reckoning.specs.declared.data.Days.{Days}
 use Rattle.reckoning.specs.declared.data.Sheet.{Sheet}
 use Rattle.reckoning.specs.declared.data.Year.{Year}
@@ -20,38 +19,28 @@ use Rattle.text.proofs.Putting.{Puts, put_wrote, put_then, put_three, all_put, p
 use Rattle.pages.specs.declared.months.ToldMonth.{ToldMonth}
 use Rattle.pages.specs.declared.steps.Steps.TheVariants.{Qi}
 use Rattle.pages.specs.StepLines.{step_lines}
-use Rattle.pages.specs.Page.{year_line, told_month, month_start, month_line, month_lines, next_line}
+use Rattle.pages.specs.Page.{year_line, held_qi, told_month, month_start, month_line, month_lines, next_line}
 use Rattle.pages.specs.Page.{name_at, sheet_names, names_line, month_at, year_lines, page_of}
 
--- A loop's texts, one more and all.
+-- A loop's texts, one more.
 pub wrote_month_more : {b m a : List ℕ} {at p e : ℕ} {month : ToldMonth} (months : Year) (i : ℕ) → month ≡ told_month months i
     → Wrote b at (texts_up_to (month_at months) i) m p
     → Wrote m p (month_line month) a e
     → Wrote b at (texts_up_to (month_at months) (i + 1)) a e
 wrote_month_more months i is w v = wrote_one_more (month_at months) i w (wrote_as (ap month_line is) v)
 
-pub wrote_name_more : {b m a : List ℕ} {start p e : ℕ} (sheet : Sheet) (count i : ℕ)
+pub wrote_name_more : {b m a : List ℕ} {start p e : ℕ} (sheet : Sheet) (days i : ℕ)
     → Wrote b start (texts_up_to (name_at sheet) i) m p
-    → Put m p 11 (name_at sheet i) a e
+    → Put m p 11 (field (get_or (take days sheet.names) i 0)) a e
     → start + 4224 ≤ length b
     → p ≤ start + 11 * i
-    → i < count
-    → count ≤ 384
+    → i < length (take days sheet.names)
+    → length (take days sheet.names) ≡ days
+    → days ≤ 384
     → Wrote b start (texts_up_to (name_at sheet) (i + 1)) a e
-wrote_name_more sheet count i w v room near more most =
-    wrote_one_more (name_at sheet) i w (put_wrote v (omega (arith, w.same_length)))
-
-pub wrote_month_lines : {b a : List ℕ} {at e : ℕ} (months : Year) (count i : ℕ) → count ≡ months.count → i ≤ count → count ≤ i
-    → Wrote b at (texts_up_to (month_at months) i) a e → Wrote b at (month_lines months) a e
-unfolding month_lines
-wrote_month_lines months count i is l h w =
-    let all : i ≡ months.count = omega arith in wrote_as (ap (texts_up_to (month_at months)) all) w
-
-pub wrote_sheet_names : {b a : List ℕ} {at e : ℕ} (sheet : Sheet) (days count i : ℕ) → count ≡ days → i ≤ count → count ≤ i
-    → Wrote b at (texts_up_to (name_at sheet) i) a e → Wrote b at (sheet_names sheet days) a e
-unfolding sheet_names
-wrote_sheet_names sheet days count i is l h w =
-    let all : i ≡ days = omega arith in wrote_as (ap (texts_up_to (name_at sheet)) all) w
+wrote_name_more sheet days i w v room near more all most =
+    wrote_one_more (name_at sheet) i w
+    (wrote_as (ap field (get_or-take days sheet.names i 0 (omega arith))) (put_wrote v (omega (arith, w.same_length))))
 
 -- Lines told by their own definitions, a name by its day.
 module _ {b a : List ℕ} {at e rooms : ℕ} where
@@ -77,20 +66,20 @@ pub put_month_start : {b m₁ m₂ m₃ a : List ℕ} {at p₁ p₂ p₃ e : ℕ
 unfolding month_start
 put_month_start m place number head name = put_then place refl (put_three number head name refl)
 
-pub put_month_line : {b m₁ m₂ m₃ a : List ℕ} {at p₁ p₂ p₃ e : ℕ} {none : Bool} (m : ToldMonth) → none ≡ eqb m.held none_held
+pub put_month_line : {b m₁ m₂ m₃ a : List ℕ} {at p₁ p₂ p₃ e : ℕ} {held : Option ℕ} (m : ToldMonth) → held ≡ held_qi m.held
     → Wrote b at (month_start m) m₁ p₁
     → p₁ ≤ at + 50
     → Put m₁ p₁ 11 (field m.days) m₂ p₂
     → Put m₂ p₂ 11 (field m.remainder) m₃ p₃
-    → Put m₃ p₃ 12 (last_field none m.held) a e
+    → Put m₃ p₃ 12 (last_field held) a e
     → Puts b at 84 (month_line m) a e
 unfolding month_line
 put_month_line {m₃ = m₃} {a = a} {p₃ = p₃} {e = e} m is start near days remainder last =
-    let held = subst (λ none. Put m₃ p₃ 12 (last_field none m.held) a e) is last in
+    let known = subst (λ held. Put m₃ p₃ 12 (last_field held) a e) is last in
     record {
       wrote =
           λ h.
-          let w = all_put {rooms = 34} (put_three days remainder held refl) (omega (arith, start.same_length)) in
+          let w = all_put {rooms = 34} (put_three days remainder known refl) (omega (arith, start.same_length)) in
           (wrote_then start w.0, omega (arith, w.1));
     }
 

@@ -5,13 +5,13 @@ use mathlib.Core.List.{List}
 use native.Mathlib.Omega.{arith}
 use lib.ListN.{length}
 use Rattle.reckoning.specs.declared.data.Moment.{Moment}
-use Rattle.text.specs.Piece.{line, texts_up_to}
+use Rattle.text.specs.Piece.{line}
 use Rattle.text.specs.Wrote.{Wrote}
 use Rattle.text.specs.Put.{Put}
-use Rattle.text.proofs.Writing.{wrote_as, wrote_one_more}
+use Rattle.text.proofs.Writing.{wrote_as}
 use Rattle.text.proofs.Putting.{put_wrote}
 use Rattle.pages.specs.declared.steps.Steps.{Steps}
-use Rattle.pages.specs.StepLines.{moment_numbers, step_word, step_told, step_line, step_lines}
+use Rattle.pages.specs.StepLines.{moment_numbers, step_word, step_told, step_line}
 
 -- A step by its case: a line of 62 bytes at most that has room.
 pub wrote_step : {b a numbers : List ℕ} {at e room : ℕ} {m : Moment} (steps known : Steps) (system n i : ℕ) → steps ≡ known
@@ -27,15 +27,3 @@ wrote_step steps known system n i is same told put short there =
     ap (line (step_word known)) (told ∙ ap (moment_numbers i) same) ∙ ap (λ s. step_line s system n i) (sym is)
     in
     (wrote_as line_is (put_wrote put (omega arith)), omega (arith, put.near))
-
--- A loop's lines, one more and all.
-pub wrote_step_more : {b m a : List ℕ} {at p e : ℕ} (steps : Steps) (system n i : ℕ)
-    → Wrote b at (texts_up_to (step_line steps system n) i) m p → Wrote m p (step_line steps system n i) a e
-    → Wrote b at (texts_up_to (step_line steps system n) (i + 1)) a e
-wrote_step_more steps system n i w v = wrote_one_more (step_line steps system n) i w v
-
-pub wrote_step_lines : {b a : List ℕ} {at e : ℕ} (steps : Steps) (system n count i : ℕ) → i ≤ count → count ≤ i
-    → Wrote b at (texts_up_to (step_line steps system n) i) a e → Wrote b at (step_lines steps count system n) a e
-unfolding step_lines
-wrote_step_lines steps system n count i l h w =
-    let all : i ≡ count = omega arith in wrote_as (ap (texts_up_to (step_line steps system n)) all) w

@@ -1,5 +1,5 @@
 -- The page that the almanac prints for a year: its lines, as bytes.
-use Rattle.std.specs.Prelude.{ℕ, ◌+◌, ◌-◌, List, [], ◌∷◌, ◌++◌, eqb, get_or}
+use Rattle.std.specs.Prelude.{ℕ, ◌+◌, ◌-◌, Option, None, Some, cond, List, [], ◌∷◌, ◌++◌, eqb, get_or}
 use Rattle.calendar.specs.SixtyDayName.{name_of}
 use Rattle.calendar.specs.Month.{none_held}
 use Rattle.reckoning.specs.declared.data.Sheet.{Sheet}
@@ -31,6 +31,10 @@ told_month months i =
       held = held_in months i;
     }
 
+-- The index of the middle qi that a month holds, if it holds one.
+abbrev pub held_qi : ℕ → Option ℕ
+held_qi held = cond (eqb held none_held) None (Some held)
+
 -- "month", place, number, '*' directly after it if leap, head and its name;
 unfoldable pub month_start : ToldMonth → List ℕ
 month_start m =
@@ -40,7 +44,7 @@ month_start m =
 -- then days, remainder and the index of the middle qi held, '-' for none.
 unfoldable pub month_line : ToldMonth → List ℕ
 month_line m =
-    month_start m ++ (field m.days ++ (field m.remainder ++ last_field (eqb m.held none_held) m.held))
+    month_start m ++ (field m.days ++ (field m.remainder ++ last_field (held_qi m.held)))
 
 -- The line of the month at index i.
 abbrev pub month_at : Year → ℕ → List ℕ

@@ -2,7 +2,7 @@
 ghost use Rattle.std.specs.Prelude.{◌≡◌, ◌+◌, ◌≤◌, ◌<◌, length};
 ghost use Rattle.text.specs.Wrote.{Wrote};
 ghost use Rattle.pages.specs.Printable.{Printable};
-ghost use Rattle.pages.specs.Page.{told_month, month_start, month_line, month_lines, next_line};
+ghost use Rattle.pages.specs.Page.{held_qi, told_month, month_start, month_line, month_lines, next_line};
 
 use crate::names::name;
 use reckoning::data::{NONE_HELD, Year};
@@ -45,6 +45,16 @@ fn told(months: Year, i: usize) -> ToldMonth
     }
 }
 
+// The index of the middle qi that a month holds, if it holds one.
+fn held_qi(held: u8) -> Option<u32>
+    ensures { result ≡ held_qi held }
+{
+    if held == NONE_HELD {
+        return None;
+    }
+    Some(held as u32)
+}
+
 // Which month it is, and when it begins.
 fn month_start(out: &mut [u8], at: usize, month: ToldMonth) -> usize
     requires { at + 50 ≤ length out.old }
@@ -63,19 +73,16 @@ fn month_line(out: &mut [u8], at: usize, month: ToldMonth) -> usize
     let at = month_start(out, at, month);
     let at = text::field(out, at, month.days);
     let at = text::field(out, at, month.remainder);
-    text::last_field(out, at, month.held == NONE_HELD, month.held as u32)
+    text::last_field(out, at, held_qi(month.held))
 }
 
 pub(crate) fn lines(out: &mut [u8], start: usize, months: Year) -> usize
     requires { (start + 1092 ≤ length out.old) × Printable months }
     ensures { Wrote out.old start (month_lines months) out.new result × (result ≤ start + 1092) }
 {
-    let count = months.count as usize;
     let mut at = start;
-    let mut i = 0;
-    while i < count {
+    for i in 0..months.count as usize {
         at = month_line(out, at, told(months, i));
-        i += 1;
     }
     at
 }

@@ -50,10 +50,8 @@ pub(crate) fn lines(
     ensures { Wrote out.old start (step_lines steps count system year) out.new result × (result ≤ start + 62 * count) }
 {
     let mut at = start;
-    let mut i = 0;
-    while i < count {
+    for i in 0..count {
         at = line(out, at, steps, system, year, i);
-        i += 1;
     }
     at
 }

@@ -23,13 +23,9 @@ fn sheet_names(out: &mut [u8], start: usize, sheet: Sheet, days: u16) -> usize
     requires { (start + 4224 ≤ length out.old) × (days ≤ 384) }
     ensures { Wrote out.old start (sheet_names sheet days) out.new result × (result ≤ start + 4224) }
 {
-    let count = days as usize;
     let mut at = start;
-    let mut i = 0;
-    while i < count {
-        let name = sheet.names[i];
-        at = text::field(out, at, name as u32);
-        i += 1;
+    for name in &sheet.names[..days as usize] {
+        at = text::field(out, at, *name as u32);
     }
     at
 }

@@ -1,7 +1,7 @@
 -- A line from its pieces.
 use Prim.Native.Nat.{ℕ}
 use mathlib.Core.Path.{◌≡◌, refl}
-use mathlib.Core.Bool.{false}
+use Rattle.std.specs.Prelude.{Some}
 use mathlib.Core.List.{List}
 use Rattle.solar_inequality.specs.declared.data.Answer.{Answer}
 use Rattle.solar_inequality.specs.declared.data.Season.{Season}
@@ -15,7 +15,7 @@ use Rattle.solar_inequality_lines.specs.AmountLine.{day_line, amount_line}
 
 module _ {b a : List ℕ} {at e : ℕ} where
   pub put_day_line : {m : List ℕ} {p : ℕ} (days amount : ℕ) → Put b at 10 (decimal days) m p
-      → Put m p 12 (last_field false amount) a e
+      → Put m p 12 (last_field (Some amount)) a e
       → Puts b at 22 (day_line days amount) a e
   unfolding day_line
   put_day_line days amount first last = put_then first refl (put_last last refl)

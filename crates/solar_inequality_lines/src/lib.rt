@@ -14,7 +14,7 @@ fn put_day(out: &mut [u8], at: usize, days: u32, amount: u16) -> usize
     ensures { Wrote out.old at (day_line days amount) out.new result × (result ≤ at + 22) }
 {
     let at = text::number(out, at, days);
-    text::last_field(out, at, false, amount as u32)
+    text::last_field(out, at, Some(amount as u32))
 }
 
 fn put_line(out: &mut [u8], at: usize, season: Season, days: u32) -> usize

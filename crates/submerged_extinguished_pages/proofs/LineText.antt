@@ -1,7 +1,8 @@
 -- The line of a qi or a new moon from its pieces.
 use Prim.Native.Nat.{ℕ, ◌+◌, ◌≤◌}
 use mathlib.Core.Path.{◌≡◌, sym, ap}
-use mathlib.Core.Bool.{true, false}
+use Rattle.std.specs.Prelude as Prelude
+use Rattle.std.specs.Prelude.{Some}
 use mathlib.Core.List.{List}
 use native.Mathlib.Omega.{arith}
 use lib.ListN.{length}
@@ -16,12 +17,12 @@ use Rattle.submerged_extinguished_pages.specs.DistancePages.{line_end, distance_
 
 -- A distance by its case.
 module _ {b a : List ℕ} {at e : ℕ} {distance : Distance} where
-  pub wrote_days : {days : ℕ} → distance ≡ Days days → Put b at 12 (last_field false days) a e → at + 12 ≤ length b
+  pub wrote_days : {days : ℕ} → distance ≡ Days days → Put b at 12 (last_field (Some days)) a e → at + 12 ≤ length b
       → Wrote b at (line_end distance) a e
   unfolding line_end
   wrote_days is p room = wrote_as (ap line_end (sym is)) (put_wrote p room)
 
-  pub wrote_none : distance ≡ None → Put b at 12 (last_field true 0) a e → at + 12 ≤ length b
+  pub wrote_none : distance ≡ None → Put b at 12 (last_field Prelude.None) a e → at + 12 ≤ length b
       → Wrote b at (line_end distance) a e
   unfolding line_end
   wrote_none is p room = wrote_as (ap line_end (sym is)) (put_wrote p room)

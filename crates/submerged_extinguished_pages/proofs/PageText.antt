@@ -1,19 +1,20 @@
 -- The pages from their lines.
-use Prim.Native.Nat.{ℕ, ◌+◌, ◌≤◌}
+use Prim.Native.Nat.{ℕ, ◌+◌, ◌≤◌, ◌<◌}
 use mathlib.Core.Path.{◌≡◌, ap}
 use mathlib.Core.List.{List, ◌++◌}
 use native.Mathlib.Omega.{arith}
-use lib.ListN.{length}
+use lib.ListN.{length, take, get_or}
+use Rattle.std.proofs.lemmas.List.{get_or-take}
 use Rattle.submerged_extinguished.specs.declared.data.Answer.{Answer}
 use Rattle.submerged_extinguished.specs.declared.data.ExtinguishedDays.{ExtinguishedDays}
-use Rattle.submerged_extinguished.specs.Answers.{submerged_of, extinguished_days_of}
+use Rattle.submerged_extinguished.specs.Answers.{unused, submerged_of, extinguished_days_of}
 use Rattle.submerged_extinguished.proofs.ExtinguishedEnds.{thirteen_most}
 use Rattle.text.specs.Piece.{title, refused_line, texts_up_to}
 use Rattle.text.specs.Put.{Put}
 use Rattle.text.specs.Wrote.{Wrote}
 use Rattle.text.proofs.Writing.{wrote_as, wrote_then, wrote_one_more}
 use Rattle.text.proofs.Putting.{Puts, put_wrote, put_refusal, wrote_told}
-use Rattle.submerged_extinguished_pages.specs.DistancePages.{page_with, qi_told, qi_line, qi_lines, moon_line_at, moon_lines}
+use Rattle.submerged_extinguished_pages.specs.DistancePages.{page_with, qi_told, qi_line, moon_line, moon_line_at, moon_lines}
 
 -- The line of the answer for a qi that was asked for.
 pub wrote_asked : {b a : List ℕ} {at e : ℕ} {got : Answer} (system n i : ℕ) → got ≡ submerged_of system n i
@@ -21,31 +22,14 @@ pub wrote_asked : {b a : List ℕ} {at e : ℕ} {got : Answer} (system n i : ℕ
     → Wrote b at (qi_line system n i) a e
 wrote_asked system n i is w = wrote_as (ap (qi_told i) is) w
 
--- A loop's lines, one more and all.
-pub wrote_qi_more : {b m a : List ℕ} {at p e : ℕ} (system n i : ℕ) → Wrote b at (texts_up_to (qi_line system n) i) m p
-    → Wrote m p (qi_line system n i) a e → Wrote b at (texts_up_to (qi_line system n) (i + 1)) a e
-wrote_qi_more system n i w v = wrote_one_more (qi_line system n) i w v
-
-pub wrote_qi_lines : {b a : List ℕ} {at e : ℕ} (system n i : ℕ) → i ≤ 25 → 25 ≤ i
-    → Wrote b at (texts_up_to (qi_line system n) i) a e → Wrote b at (qi_lines system n) a e
-unfolding qi_lines
-wrote_qi_lines system n i l h w =
-    let all : i ≡ 25 = omega arith in wrote_as (ap (texts_up_to (qi_line system n)) all) w
-
+-- A moon's line more.
 pub wrote_moon_more : {b m a : List ℕ} {at p e : ℕ} (days : ExtinguishedDays) (i : ℕ)
     → Wrote b at (texts_up_to (moon_line_at days) i) m p
-    → Wrote m p (moon_line_at days i) a e
+    → Wrote m p (moon_line (i + 1) (get_or (take days.count days.moons) i unused)) a e
+    → i < days.count
     → Wrote b at (texts_up_to (moon_line_at days) (i + 1)) a e
-wrote_moon_more days i w v = wrote_one_more (moon_line_at days) i w v
-
-pub wrote_moon_lines : {b a : List ℕ} {at e : ℕ} (days : ExtinguishedDays) (count i : ℕ) → count ≡ days.count
-    → i ≤ count
-    → count ≤ i
-    → Wrote b at (texts_up_to (moon_line_at days) i) a e
-    → Wrote b at (moon_lines days) a e
-unfolding moon_lines
-wrote_moon_lines days count i is l h w =
-    let all : i ≡ days.count = omega arith in wrote_as (ap (texts_up_to (moon_line_at days)) all) w
+wrote_moon_more days i w v more =
+    wrote_one_more (moon_line_at days) i w (wrote_as (ap (moon_line (i + 1)) (get_or-take days.count days.moons i unused more)) v)
 
 -- A page: refused and answered.
 module _ {b a : List ℕ} {at e : ℕ} (bytes : List ℕ) (system n : ℕ) (lines : List ℕ) {got asked : ℕ} (is : got ≡ asked) where

@@ -1,5 +1,6 @@
 -- The pages that the almanac prints of submerged and extinguished days: their lines, as bytes.
-use Rattle.std.specs.Prelude.{ℕ, ◌+◌, true, false, List, [], ◌∷◌, ◌++◌, get_or}
+use Rattle.std.specs.Prelude as Prelude
+use Rattle.std.specs.Prelude.{ℕ, ◌+◌, Some, List, [], ◌∷◌, ◌++◌, get_or}
 use Rattle.submerged_extinguished.specs.declared.data.Answer.{Answer}
 use Rattle.submerged_extinguished.specs.declared.data.Distance.{Distance}
 use Rattle.submerged_extinguished.specs.declared.data.Distance.TheVariants.{Days, None}
@@ -10,8 +11,8 @@ use Rattle.text.specs.Piece.{field, title, numbered, last_field, told_unless, te
 
 -- The distance, '-' for none, and the line's end.
 unfoldable pub line_end : Distance → List ℕ
-line_end (Days days) = last_field false days
-line_end None = last_field true 0
+line_end (Days days) = last_field (Some days)
+line_end None = last_field Prelude.None
 
 -- A word, a number, the day of a qi or new moon, and the distance.
 unfoldable pub distance_line : List ℕ → ℕ → ℕ → Distance → List ℕ

@@ -12,8 +12,8 @@ fn line_end(out: &mut [u8], at: usize, distance: Distance) -> usize
     ensures { Wrote out.old at (line_end distance) out.new result × (result ≤ at + 12) }
 {
     match distance {
-        Distance::Days(days) => text::last_field(out, at, false, days as u32),
-        Distance::None => text::last_field(out, at, true, 0),
+        Distance::Days(days) => text::last_field(out, at, Some(days as u32)),
+        Distance::None => text::last_field(out, at, None),
     }
 }
 

@@ -21,10 +21,8 @@ fn qi_lines(out: &mut [u8], start: usize, system: u32, year: u32) -> usize
     ensures { Wrote out.old start (qi_lines system year) out.new result × (result ≤ start + 900) }
 {
     let mut at = start;
-    let mut i = 0;
-    while i < 25 {
+    for i in 0..25 {
         at = qi_line(out, at, system, year, i);
-        i += 1;
     }
     at
 }
@@ -56,14 +54,9 @@ fn moon_lines(out: &mut [u8], start: usize, days: ExtinguishedDays) -> usize
     requires { (start + 494 ≤ length out.old) × (days.count ≤ 13) }
     ensures { Wrote out.old start (moon_lines days) out.new result × (result ≤ start + 494) }
 {
-    let count = days.count as usize;
     let mut at = start;
-    let mut i = 0;
-    while i < count {
-        // One is handed on, and not all of them, which would be copied each time.
-        let moon = days.moons[i];
-        i += 1;
-        at = moon_line(out, at, i as u32, moon);
+    for (i, moon) in days.moons[..days.count as usize].iter().enumerate() {
+        at = moon_line(out, at, i as u32 + 1, *moon);
     }
     at
 }

@@ -1,5 +1,7 @@
 -- Text put into an output where there is room for it.
-use Prim.Native.Nat.{ℕ, ◌+◌, ◌-◌, ◌≤◌}
+use Prim.Native.Nat.{ℕ, ◌+◌, ◌-◌, ◌≤◌, ◌<◌}
+use denote.MutBor.{MutBor}
+use Rattle.std.specs.Fn.{Once, FnOnceReturnsAtMut}
 use mathlib.Core.Path.{◌≡◌, refl, subst, ap, sym, ◌∙◌}
 use mathlib.Core.Bool.{Bool, true, false}
 use mathlib.Core.List.{List, [], ◌++◌}
@@ -32,6 +34,26 @@ module _ {before : List ℕ} {at room : ℕ} {text : List ℕ} {short : Bool} (t
   put_text e w =
       let some : ltb (length before) (at + room) ≡ false = sym test ∙ e in
       record { is = simp some w.0.is; ends = simp some w.0.ends; near = w.1 }
+
+-- Text that a closure puts, where there is room for it.
+pub put_by : {F : Type 0} {g : Once F (MutBor (List ℕ) × Unit {0}) (ℕ × (MutBor (List ℕ) × Unit {0}))} {f : F} {before text after : List ℕ} {at room end : ℕ}
+    → (length before < at + room → (after ≡ before) × (end ≡ at))
+    → (at + room ≤ length before → FnOnceReturnsAtMut g f before end after)
+    → ((x y : MutBor (List ℕ)) → x.now ≡ before → at + room ≤ length x.now → g.post f (x, tt) (end, (y, tt)) → Wrote x.now at text y.now end × (end ≤ at + room))
+    → Put before at room text after end
+put_by {before = before} {text = text} {after = after} {at = at} {room = room} {end = end} short put writes =
+    by_order (length before) (at + room)
+    (λ l.
+    let none = short l in
+    let left : Put before at room text before at = put_none (sym (lt-ltb (length before) (at + room) l)) refl in
+    subst (λ e. Put before at room text after e) (sym none.1) (subst (λ t. Put before at room text t at) (sym none.0) left))
+    (λ enough.
+    let r = put enough in
+    let enough_there : at + room ≤ length r.shown.now = subst (λ t. at + room ≤ length t) (sym r.shows) enough in
+    let w = writes r.shown r.left r.shows enough_there r.met in
+    let v = subst (λ t. Wrote t at text r.left.now end × (end ≤ at + room)) r.shows w in
+    let u = subst (λ t. Wrote before at text t end × (end ≤ at + room)) r.leaves v in
+    put_text (sym (le-ltb (length before) (at + room) enough)) refl u)
 
 -- No text changes nothing, room or not.
 pub put_nothing : (b : List ℕ) (at room : ℕ) → Put b at room [] b at

@@ -1,16 +1,18 @@
 -- Text written piece by piece.
 use Prim.Native.Nat.{ℕ, ◌+◌, ◌-◌, ◌≤◌, ◌<◌}
 use mathlib.Core.Path.{◌≡◌, refl, subst, ap, ap₂, sym, ◌∙◌}
-use mathlib.Core.Bool.{Bool, true, false, cond}
+use mathlib.Core.Bool.{cond}
 use mathlib.Core.List.{List, [], ◌∷◌, ◌++◌, append_assoc, append-nil}
 use native.Mathlib.Numerals.{add-one}
 use native.Mathlib.Omega.{arith}
 use lib.Dec.{eqb}
 use lib.ListN.{length, take, drop, get_or, set, length-append, length-set, take-append-drop}
-use lib.Seq.{set_split, set-set, take_at, drop_at, drop-drop, take-suc, take_all, take-length, length-take-le}
+use lib.Seq.{set_split, set-set, take_at, drop_at, drop-drop, take_all, take-length, length-take-le}
 use lib.Seq.{paste, length-paste}
 use borrow.Rule.Slice.PartMut.{put_mid}
+use Rattle.std.proofs.lemmas.List.{take_more}
 use Rattle.std.proofs.lemmas.Slice.{put_mid-paste}
+use Rattle.std.specs.Prelude.{Option, None, Some}
 use borrow.Author.Tests.{eq-eqb, ne_eqb}
 use Rattle.calendar.proofs.Rising.{by_order}
 use Rattle.text.specs.Decimal.{decimal}
@@ -134,16 +136,15 @@ unfolding numbered
 wrote_numbered bytes n w v = wrote_then w v
 
 -- The last field of a line, by whether there is a number.
-pub wrote_dash : {b a : List ℕ} {at e : ℕ} {none : Bool} (n : ℕ) → none ≡ true → Wrote b at (word (32 ∷ 45 ∷ newline)) a e
-    → Wrote b at (last_field none n) a e
-unfolding last_field word
-wrote_dash n e w = rw e w
+module _ {b a : List ℕ} {at e : ℕ} {told : Option ℕ} where
+  pub wrote_dash : told ≡ None → Wrote b at (word (32 ∷ 45 ∷ newline)) a e → Wrote b at (last_field told) a e
+  unfolding last_field word
+  wrote_dash is w = wrote_as (ap last_field (sym is)) w
 
-pub wrote_last : {b m a : List ℕ} {at p e : ℕ} {none : Bool} (n : ℕ) → none ≡ false → Wrote b at (field n) m p
-    → Wrote m p newline a e
-    → Wrote b at (last_field none n) a e
-unfolding last_field
-wrote_last n e w v = rw e (wrote_then w v)
+  pub wrote_last : {m : List ℕ} {p n : ℕ} → told ≡ Some n → Wrote b at (field n) m p → Wrote m p newline a e
+      → Wrote b at (last_field told) a e
+  unfolding last_field
+  wrote_last is w v = wrote_as (ap last_field (sym is)) (wrote_then w v)
 
 -- A field more.
 fields_after : (numbers : List ℕ) (n : ℕ) → fields (numbers ++ n ∷ []) ≡ fields numbers ++ field n
@@ -157,7 +158,7 @@ pub wrote_more_fields : {b m a : List ℕ} {at p e : ℕ} (numbers : List ℕ) (
     → Wrote b at (fields (take (i + 1) numbers)) a e
 wrote_more_fields numbers i h w v =
     let more : fields (take i numbers) ++ field (get_or numbers i 0) ≡ fields (take (i + 1) numbers) =
-    sym (ap fields (ap (λ n. take n numbers) (add-one i) ∙ take-suc numbers i 0 h) ∙ fields_after (take i numbers) (get_or numbers i 0))
+    sym (ap fields (take_more numbers i 0 h) ∙ fields_after (take i numbers) (get_or numbers i 0))
     in
     wrote_as more (wrote_then w v)
 
@@ -183,7 +184,7 @@ wrote_copied b at text copy same h =
       same_length = ap length whole ∙ length-paste b at text (length text) h (omega arith);
     }
 
--- Texts in order: none yet, and one more.
+-- Texts in order: none yet, one more, and all.
 module _ (text : ℕ → List ℕ) where
   pub wrote_no_texts : {b : List ℕ} {at : ℕ} → at ≤ length b → Wrote b at (texts_up_to text 0) b at
   unfolding texts_up_to
@@ -193,3 +194,7 @@ module _ (text : ℕ → List ℕ) where
       → Wrote b at (texts_up_to text n) m p → Wrote m p (text n) a e → Wrote b at (texts_up_to text (n + 1)) a e
   unfolding texts_up_to
   wrote_one_more n w v = rw (add-one n) (wrote_then w v)
+
+  pub wrote_all_texts : {b a : List ℕ} {at e : ℕ} (n count : ℕ) → n ≡ count → Wrote b at (texts_up_to text n) a e
+      → Wrote b at (texts_up_to text count) a e
+  wrote_all_texts n count all w = wrote_as (ap (texts_up_to text) all) w

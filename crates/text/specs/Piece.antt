@@ -1,5 +1,5 @@
 -- The pieces that lines are made of, as bytes: 32 is ' ', 42 '*', 45 '-', 10 ends a line.
-use Rattle.std.specs.Prelude.{ℕ, zero, suc, Bool, cond, List, [], ◌∷◌, ◌++◌, eqb, get_or}
+use Rattle.std.specs.Prelude.{ℕ, zero, suc, Option, None, Some, cond, List, [], ◌∷◌, ◌++◌, eqb, get_or}
 use Rattle.text.specs.Decimal.{decimal}
 
 -- A word, as its bytes.
@@ -27,8 +27,9 @@ abbrev pub line : List ℕ → List ℕ → List ℕ
 line bytes numbers = word bytes ++ (fields numbers ++ newline)
 
 -- The last field of a line: a space and a number, or '-' where there is none; and the line's end.
-unfoldable pub last_field : Bool → ℕ → List ℕ
-last_field none n = cond none (32 ∷ 45 ∷ []) (field n) ++ newline
+unfoldable pub last_field : Option ℕ → List ℕ
+last_field None = 32 ∷ 45 ∷ newline
+last_field (Some n) = field n ++ newline
 
 -- The letters of the systems, in the order of their numbers: G of Guantian, J of Jiyuan, W of Jingchu.
 abbrev pub letters : List ℕ

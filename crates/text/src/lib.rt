@@ -3,7 +3,8 @@
 // place stay as they are.
 #![tactic(auto)]
 
-ghost use Rattle.std.specs.Prelude.{◌≡◌, ◌+◌, ◌*◌, ◌^◌, ◌<◌, ltb, length};
+ghost use Rattle.std.specs.Prelude.{◌≡◌, ◌+◌, ◌*◌, ◌^◌, ◌<◌, ◌≤◌, ltb, length};
+ghost use Rattle.std.specs.Fn.{FnOnceTakesAtMut, FnOnceReturnsAtMut};
 ghost use Rattle.text.specs.Decimal.{decimal};
 ghost use Rattle.text.specs.Piece.{word, field, letter_of, year, title, month, numbered, line, last_field, refused_with, refused_line, refused_telling_line};
 ghost use Rattle.text.specs.Put.{Put};
@@ -23,34 +24,42 @@ pub fn is_short(length: usize, at: usize, room: usize) -> bool
     false
 }
 
+// Has a piece put where there is room for it; where there is not, the output and the place stay as they are.
+fn with_room<F: FnOnce(&mut [u8]) -> usize>(
+    out: &mut [u8],
+    at: usize,
+    room: usize,
+    piece: F,
+) -> usize
+    requires { at + room ≤ length out.old → FnOnceTakesAtMut F.FnOnce piece out.old }
+    ensures short { length out.old < at + room → (out.new ≡ out.old) × (result ≡ at) }
+    ensures put { at + room ≤ length out.old → FnOnceReturnsAtMut F.FnOnce piece out.old result out.new }
+{
+    if is_short(out.len(), at, room) {
+        return at;
+    }
+    piece(out)
+}
+
 // A word, as its bytes.
 pub fn word(out: &mut [u8], at: usize, bytes: &[u8]) -> usize
     ensures { Put out.old at (length bytes.now) (word bytes.now) out.new result }
 {
-    if is_short(out.len(), at, bytes.len()) {
-        return at;
-    }
-    put::word(out, at, bytes)
+    with_room(out, at, bytes.len(), |out| put::word(out, at, bytes))
 }
 
 // A number, where there is room for ten digits.
 pub fn number(out: &mut [u8], at: usize, n: u32) -> usize
     ensures { Put out.old at 10 (decimal n) out.new result }
 {
-    if is_short(out.len(), at, 10) {
-        return at;
-    }
-    put::number(out, at, n)
+    with_room(out, at, 10, |out| put::number(out, at, n))
 }
 
 // A space and a number, where there is room for ten digits.
 pub fn field(out: &mut [u8], at: usize, n: u32) -> usize
     ensures { Put out.old at 11 (field n) out.new result }
 {
-    if is_short(out.len(), at, 11) {
-        return at;
-    }
-    put::field(out, at, n)
+    with_room(out, at, 11, |out| put::field(out, at, n))
 }
 
 // The byte of a system's letter. A number that is no system's has '?'.
@@ -69,40 +78,38 @@ pub fn letter_of(system: u32) -> u8
 pub fn year(out: &mut [u8], at: usize, system: u32, n: u32) -> usize
     ensures { Put out.old at 12 (year system n) out.new result }
 {
-    if is_short(out.len(), at, 12) {
-        return at;
-    }
-    put::year(out, at, system, n)
+    with_room(out, at, 12, |out| put::year(out, at, system, n))
 }
 
 // The first line of a page: a word, with the space after it, and a year of a system.
 pub fn title(out: &mut [u8], at: usize, bytes: &[u8], system: u32, n: u32) -> usize
     ensures { Put out.old at (length bytes.now + 13) (title bytes.now system n) out.new result }
 {
-    if is_short(out.len(), at, bytes.len() + 13) {
-        return at;
-    }
-    put::title(out, at, bytes, system, n)
+    with_room(
+        out,
+        at,
+        bytes.len() + 13,
+        |out| put::title(out, at, bytes, system, n),
+    )
 }
 
 // A space and a month's number, with a star directly after it where the leap mark is not 0.
 pub fn month(out: &mut [u8], at: usize, number: u32, leap: u8) -> usize
     ensures { Put out.old at 12 (month number leap) out.new result }
 {
-    if is_short(out.len(), at, 12) {
-        return at;
-    }
-    put::month(out, at, number, leap)
+    with_room(out, at, 12, |out| put::month(out, at, number, leap))
 }
 
 // A word, a space and a number.
 pub fn numbered(out: &mut [u8], at: usize, bytes: &[u8], n: u32) -> usize
     ensures { Put out.old at (length bytes.now + 11) (numbered bytes.now n) out.new result }
 {
-    if is_short(out.len(), at, bytes.len() + 11) {
-        return at;
-    }
-    put::numbered(out, at, bytes, n)
+    with_room(
+        out,
+        at,
+        bytes.len() + 11,
+        |out| put::numbered(out, at, bytes, n),
+    )
 }
 
 // Whether there is no room for a line of a word and so many numbers.
@@ -128,13 +135,10 @@ pub fn line(out: &mut [u8], at: usize, bytes: &[u8], numbers: &[u32]) -> usize
 }
 
 // The last field of a line: a space and a number, or '-' where there is none; and the line's end.
-pub fn last_field(out: &mut [u8], at: usize, none: bool, n: u32) -> usize
-    ensures { Put out.old at 12 (last_field none n) out.new result }
+pub fn last_field(out: &mut [u8], at: usize, n: Option<u32>) -> usize
+    ensures { Put out.old at 12 (last_field n) out.new result }
 {
-    if is_short(out.len(), at, 12) {
-        return at;
-    }
-    put::last_field(out, at, none, n)
+    with_room(out, at, 12, |out| put::last_field(out, at, n))
 }
 
 fn refused_with(out: &mut [u8], at: usize, numbers: &[u32]) -> usize

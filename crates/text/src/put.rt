@@ -222,13 +222,15 @@ pub(crate) fn line(out: &mut [u8], start: usize, bytes: &[u8], numbers: &[u32]) 
 }
 
 // A field and the line's end; '-' in the field where there is no number.
-pub(crate) fn last_field(out: &mut [u8], at: usize, none: bool, n: u32) -> usize
+pub(crate) fn last_field(out: &mut [u8], at: usize, n: Option<u32>) -> usize
     requires { at + 12 ≤ length out.old }
-    ensures { Wrote out.old at (last_field none n) out.new result × (result ≤ at + 12) }
+    ensures { Wrote out.old at (last_field n) out.new result × (result ≤ at + 12) }
 {
-    if none {
-        return word(out, at, b" -\n");
+    match n {
+        None => word(out, at, b" -\n"),
+        Some(n) => {
+            let next = field(out, at, n);
+            byte(out, next, b'\n')
+        }
     }
-    let next = field(out, at, n);
-    byte(out, next, b'\n')
 }

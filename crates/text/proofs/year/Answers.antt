@@ -1,11 +1,6 @@
-use Rattle.text.proofs.Putting.{has_room, put_none, put_text}
+use borrow.Author.Rules.{rules}
+use Rattle.text.proofs.Putting.{put_by}
 use Rattle.text.proofs.year.Goals as goal
 
-pub returns-then-is_short : goal.returns-then-is_short
-returns-then-is_short c = search put_none
-
-pub year-requires : goal.year-requires
-year-requires c = search has_room
-
 pub returns : goal.returns
-returns c = search put_text
+returns c = put_by c.with_room.ensures.short c.with_room.ensures.put (λ before after is room p. search rules)

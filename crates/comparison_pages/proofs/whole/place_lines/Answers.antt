@@ -1,18 +1,28 @@
+use Prim.Native.Nat.{◌<◌}
+use mathlib.Core.Path.{◌≡◌}
 use native.Mathlib.Omega.{arith}
 use borrow.Author.Rules.{rules}
-use Rattle.text.proofs.Writing.{wrote_no_texts}
-use Rattle.comparison_pages.proofs.PageText.{wrote_more_places, wrote_all_places}
+use Rattle.text.proofs.Writing.{wrote_no_texts, wrote_all_texts}
+use Rattle.comparison_pages.specs.ComparisonPage.{place_at, place_lines}
+use Rattle.comparison_pages.proofs.PageText.{wrote_more_places}
 use Rattle.comparison_pages.proofs.PlacesTold.{place_printable}
 use Rattle.comparison_pages.proofs.whole.place_lines.Goals as goal
 
-pub loop-i-init : goal.loop-i-init
-loop-i-init c = (search rules, omega arith, omega arith, wrote_no_texts _ (omega arith))
+pub loop-listed-init : goal.loop-listed-init
+loop-listed-init c = (omega arith, wrote_no_texts _ (omega arith))
 
 pub line-at-requires : goal.line-at-requires
-line-at-requires c = (search rules, search place_printable)
+line-at-requires c = (search rules, search (rules, place_printable))
 
-pub loop-i-preserved : goal.loop-i-preserved
-loop-i-preserved c = (search rules, omega arith, omega arith, search wrote_more_places)
+pub loop-listed-preserved : goal.loop-listed-preserved
+loop-listed-preserved c =
+    let args = c.args in
+    let more : c.loop-listed.listed-index < args.compared.count = search rules in
+    (omega arith, wrote_more_places args.first args.second args.compared _ c.loop-listed.invariant.1 c.line-at.ensures.0 more)
 
 pub returns : goal.returns
-returns c = (search wrote_all_places, omega arith)
+unfolding place_lines
+returns c =
+    let args = c.args in
+    let all : c.loop-listed.listed-index ≡ args.compared.count = search rules in
+    (wrote_all_texts (place_at args.first args.second args.compared) _ _ all c.loop-listed.invariant.1, omega arith)

@@ -1,14 +1,15 @@
 use native.Mathlib.Omega.{arith}
-use Rattle.text.proofs.Writing.{wrote_no_texts}
-use Rattle.pages.proofs.PageText.{wrote_month_more, wrote_month_lines}
-use borrow.Author.Rules.{rules}
+use Rattle.text.proofs.Writing.{wrote_no_texts, wrote_all_texts}
+use Rattle.pages.specs.Page.{month_at, month_lines}
+use Rattle.pages.proofs.PageText.{wrote_month_more}
 use Rattle.pages.proofs.months.lines.Goals as goal
 
 pub loop-i-init : goal.loop-i-init
-loop-i-init c = (search rules, omega arith, omega arith, wrote_no_texts _ (omega arith))
+loop-i-init c = (omega arith, wrote_no_texts _ (omega arith))
 
 pub loop-i-preserved : goal.loop-i-preserved
-loop-i-preserved c = (search rules, omega arith, omega arith, search wrote_month_more)
+loop-i-preserved c = (omega arith, search wrote_month_more)
 
 pub returns : goal.returns
-returns c = (search wrote_month_lines, omega arith)
+unfolding month_lines
+returns c = (wrote_all_texts (month_at c.args.months) _ _ (omega arith) c.loop-i.invariant.1, omega arith)

@@ -1,5 +1,4 @@
-use Prim.Native.Nat.{◌+◌, ◌*◌, ◌-◌, ◌≤◌}
-use mathlib.Core.Path.{◌≡◌}
+use Prim.Native.Nat.{◌+◌, ◌*◌, ◌≤◌}
 use Rattle.text.specs.Wrote.{Wrote}
 use Rattle.text.specs.Piece.{texts_up_to}
 use Rattle.pages.specs.Page.{month_at}
@@ -7,7 +6,4 @@ use Rattle.pages.proofs.months.lines.Given as goal
 
 abbrev pub invariant-loop-i : goal.invariant-loop-i
 invariant-loop-i l =
-    (l.count ≡ l.months.count) × (l.i ≤ l.count) × (l.at ≤ l.start + 84 * l.i) × Wrote l.initial.out l.start (texts_up_to (month_at l.months) l.i) l.out l.at
-
-abbrev pub decreases-loop-i : goal.decreases-loop-i
-decreases-loop-i l = l.count - l.i
+    (l.at ≤ l.start + 84 * l.i) × Wrote l.initial.out l.start (texts_up_to (month_at l.months) l.i) l.out l.at

@@ -1,14 +1,16 @@
 use native.Mathlib.Omega.{arith}
-use Rattle.text.proofs.Writing.{wrote_no_texts}
-use Rattle.pages.proofs.PageText.{wrote_name_more, wrote_sheet_names}
 use borrow.Author.Rules.{rules}
+use Rattle.text.proofs.Writing.{wrote_no_texts, wrote_all_texts}
+use Rattle.pages.specs.Page.{name_at, sheet_names}
+use Rattle.pages.proofs.PageText.{wrote_name_more}
 use Rattle.pages.proofs.whole.sheet_names.Goals as goal
 
-pub loop-i-init : goal.loop-i-init
-loop-i-init c = (search rules, omega arith, omega arith, omega arith, wrote_no_texts _ (omega arith))
+pub loop-name-init : goal.loop-name-init
+loop-name-init c = (omega arith, wrote_no_texts _ (omega arith))
 
-pub loop-i-preserved : goal.loop-i-preserved
-loop-i-preserved c = (search rules, omega arith, omega arith, omega arith, search wrote_name_more)
+pub loop-name-preserved : goal.loop-name-preserved
+loop-name-preserved c = (omega arith, search (rules, wrote_name_more))
 
 pub returns : goal.returns
-returns c = (search wrote_sheet_names, omega arith)
+unfolding sheet_names
+returns c = (wrote_all_texts (name_at c.args.sheet) _ _ (search rules) c.loop-name.invariant.1, omega arith)

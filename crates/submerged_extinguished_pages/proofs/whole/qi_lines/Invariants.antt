@@ -1,4 +1,4 @@
-use Prim.Native.Nat.{◌+◌, ◌*◌, ◌-◌, ◌≤◌}
+use Prim.Native.Nat.{◌+◌, ◌*◌, ◌≤◌}
 use Rattle.text.specs.Wrote.{Wrote}
 use Rattle.text.specs.Piece.{texts_up_to}
 use Rattle.submerged_extinguished_pages.specs.DistancePages.{qi_line}
@@ -6,7 +6,4 @@ use Rattle.submerged_extinguished_pages.proofs.whole.qi_lines.Given as goal
 
 abbrev pub invariant-loop-i : goal.invariant-loop-i
 invariant-loop-i l =
-    (l.i ≤ 25) × (l.at ≤ l.start + 36 * l.i) × Wrote l.initial.out l.start (texts_up_to (qi_line l.system l.year) l.i) l.out l.at
-
-abbrev pub decreases-loop-i : goal.decreases-loop-i
-decreases-loop-i l = 25 - l.i
+    (l.at ≤ l.start + 36 * l.i) × Wrote l.initial.out l.start (texts_up_to (qi_line l.system l.year) l.i) l.out l.at
