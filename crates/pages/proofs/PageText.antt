@@ -9,7 +9,7 @@ use Rattle.std.proofs.lemmas.List.{get_or-take}
 use Rattle.reckoning.specs.declared.data.Days.{Days}
 use Rattle.reckoning.specs.declared.data.Sheet.{Sheet}
 use Rattle.reckoning.specs.declared.data.Year.{Year}
-use Rattle.reckoning.specs.Requests.{year_of, sheet_of, days_of}
+use Rattle.reckoning.specs.Requests.{qi_of, year_of, sheet_of, days_of}
 use Rattle.reckoning.specs.YearValue.{head_in}
 use Rattle.text.specs.Piece.{word, field, year, month, numbered, line, last_field, refused_line, texts_up_to}
 use Rattle.text.specs.Put.{Put}
@@ -17,9 +17,8 @@ use Rattle.text.specs.Wrote.{Wrote}
 use Rattle.text.proofs.Writing.{wrote_as, wrote_then, wrote_one_more}
 use Rattle.text.proofs.Putting.{Puts, put_wrote, put_then, put_three, all_put, put_refusal, wrote_told}
 use Rattle.pages.specs.declared.months.ToldMonth.{ToldMonth}
-use Rattle.pages.specs.declared.steps.Steps.TheVariants.{Qi}
 use Rattle.pages.specs.StepLines.{step_lines}
-use Rattle.pages.specs.Page.{year_line, held_qi, told_month, month_start, month_line, month_lines, next_line}
+use Rattle.pages.specs.Page.{qi_word, year_line, held_qi, told_month, month_start, month_line, month_lines, next_line}
 use Rattle.pages.specs.Page.{name_at, sheet_names, names_line, month_at, year_lines, page_of}
 
 -- A loop's texts, one more.
@@ -103,7 +102,7 @@ put_names sheet days first names near last =
 -- The whole page: of a year answered, and of one refused.
 pub wrote_year_lines : {b m₁ m₂ m₃ m₄ a : List ℕ} {at p₁ p₂ p₃ p₄ e : ℕ} (system n : ℕ) (months : Year) (days : ℕ) (sheet : Sheet)
     → Wrote b at (year_line system n months.count days) m₁ p₁
-    → Wrote m₁ p₁ (step_lines Qi 25 system n) m₂ p₂
+    → Wrote m₁ p₁ (step_lines qi_word (qi_of system n) 25) m₂ p₂
     → Wrote m₂ p₂ (month_lines months) m₃ p₃
     → Wrote m₃ p₃ (next_line months) m₄ p₄
     → Wrote m₄ p₄ (names_line sheet days) a e

@@ -13,9 +13,8 @@ use Rattle.text.specs.Put.{Put}
 use Rattle.text.specs.Wrote.{Wrote}
 use Rattle.text.proofs.Writing.{wrote_then}
 use Rattle.text.proofs.Putting.{Puts, put_wrote, put_refusal, wrote_told}
-use Rattle.pages.specs.declared.steps.Steps.TheVariants.{Pentads}
 use Rattle.pages.specs.StepLines.{step_lines}
-use Rattle.pages.specs.PentadPages.{pentads_word, pentads_page, in_force_line, pentad_line}
+use Rattle.pages.specs.PentadPages.{pentads_word, pentad_word, pentads_page, in_force_line, pentad_line}
 
 module _ {b a : List ℕ} {at e rooms : ℕ} where
   pub put_in_force_line : {letter : ℕ} (day system n pentad : ℕ) → letter ≡ letter_of system
@@ -27,7 +26,7 @@ module _ {b a : List ℕ} {at e rooms : ℕ} where
 
 -- The page of a year's pentads: refused and answered.
 abbrev told : ℕ → ℕ → Moment → List ℕ
-told system n v = title pentads_word system n ++ step_lines Pentads 72 system n
+told system n v = title pentads_word system n ++ step_lines pentad_word (pentad_of system n) 72
 
 module _ {b a : List ℕ} {at e : ℕ} (system n : ℕ) {first : Moment} (is : first ≡ pentad_of system n 0) where
   pub put_pentads_refused : {rooms : ℕ} → (first.refusal ≡ 0 → ⊥) → Puts b at rooms (refused_line first.refusal) a e
@@ -37,7 +36,7 @@ module _ {b a : List ℕ} {at e : ℕ} (system n : ℕ) {first : Moment} (is : f
 
   pub wrote_pentads : {m : List ℕ} {p : ℕ} → first.refusal ≡ 0 → Put b at 21 (title pentads_word system n) m p
       → at + 4608 ≤ length b
-      → Wrote m p (step_lines Pentads 72 system n) a e
+      → Wrote m p (step_lines pentad_word (pentad_of system n) 72) a e
       → Wrote b at (pentads_page system n) a e
   unfolding pentads_page
   wrote_pentads h w room v = wrote_told (λ x. x.refusal) (told system n) is h (wrote_then (put_wrote w (omega arith)) v)

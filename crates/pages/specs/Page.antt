@@ -4,11 +4,10 @@ use Rattle.calendar.specs.SixtyDayName.{name_of}
 use Rattle.calendar.specs.Month.{none_held}
 use Rattle.reckoning.specs.declared.data.Sheet.{Sheet}
 use Rattle.reckoning.specs.declared.data.Year.{Year}
-use Rattle.reckoning.specs.Requests.{year_of, sheet_of, days_of}
+use Rattle.reckoning.specs.Requests.{qi_of, year_of, sheet_of, days_of}
 use Rattle.reckoning.specs.YearValue.{head_in, number_in, leap_in, remainder_in, held_in}
 use Rattle.text.specs.Piece.{word, field, year, month, numbered, line, last_field, told_unless, texts_up_to}
 use Rattle.pages.specs.declared.months.ToldMonth.{ToldMonth}
-use Rattle.pages.specs.declared.steps.Steps.TheVariants.{Qi}
 use Rattle.pages.specs.StepLines.{step_lines}
 
 -- "year ", then letter and year, how many months and days.
@@ -68,11 +67,15 @@ sheet_names sheet days = texts_up_to (name_at sheet) days
 unfoldable pub names_line : Sheet → ℕ → List ℕ
 names_line sheet days = word (110 ∷ 97 ∷ 109 ∷ 101 ∷ 115 ∷ []) ++ (sheet_names sheet days ++ word (10 ∷ []))
 
+-- "qi"
+abbrev pub qi_word : List ℕ
+qi_word = 113 ∷ 105 ∷ []
+
 -- The lines of a year that has these months and so many days, named on the sheet. Its qi are those from 0 to 24.
 unfoldable pub year_lines : ℕ → ℕ → Year → ℕ → Sheet → List ℕ
 year_lines system year months days sheet =
     year_line system year months.count days
-    ++ (step_lines Qi 25 system year ++ (month_lines months ++ (next_line months ++ names_line sheet days)))
+    ++ (step_lines qi_word (qi_of system year) 25 ++ (month_lines months ++ (next_line months ++ names_line sheet days)))
 
 -- The page of a year, or the line of its refusal.
 unfoldable pub page_of : ℕ → ℕ → List ℕ

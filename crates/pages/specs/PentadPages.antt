@@ -3,17 +3,20 @@ use Rattle.std.specs.Prelude.{ℕ, List, [], ◌∷◌, ◌++◌}
 use Rattle.reckoning.specs.Requests.{pentad_of, pentad_in_force}
 use Rattle.text.specs.Decimal.{decimal}
 use Rattle.text.specs.Piece.{word, letter_of, title, line, told_unless}
-use Rattle.pages.specs.declared.steps.Steps.TheVariants.{Pentads}
 use Rattle.pages.specs.StepLines.{step_lines}
 
 -- "pentads "
 abbrev pub pentads_word : List ℕ
 pentads_word = 112 ∷ 101 ∷ 110 ∷ 116 ∷ 97 ∷ 100 ∷ 115 ∷ 32 ∷ []
 
+-- "pentad"
+abbrev pub pentad_word : List ℕ
+pentad_word = 112 ∷ 101 ∷ 110 ∷ 116 ∷ 97 ∷ 100 ∷ []
+
 -- The 72 pentads of a year, or the line of its refusal.
 unfoldable pub pentads_page : ℕ → ℕ → List ℕ
 pentads_page system year =
-    told_unless (pentad_of system year 0).refusal (title pentads_word system year ++ step_lines Pentads 72 system year)
+    told_unless (pentad_of system year 0).refusal (title pentads_word system year ++ step_lines pentad_word (pentad_of system year) 72)
 
 -- A day, and the pentad in force at its end: the system's letter, the year, the pentad's number.
 unfoldable pub in_force_line : ℕ → ℕ → ℕ → ℕ → List ℕ

@@ -2,29 +2,20 @@
 use Rattle.std.specs.Prelude.{ℕ, List, [], ◌∷◌}
 use Rattle.calendar.specs.SixtyDayName.{name_of}
 use Rattle.reckoning.specs.declared.data.Moment.{Moment}
-use Rattle.reckoning.specs.Requests.{qi_of, pentad_of}
 use Rattle.text.specs.Piece.{line, texts_up_to}
-use Rattle.pages.specs.declared.steps.Steps.{Steps}
-use Rattle.pages.specs.declared.steps.Steps.TheVariants.{Qi, Pentads}
 
 -- What is told of a step: its number from 0, its day with its name, parts, units.
 abbrev pub moment_numbers : ℕ → Moment → List ℕ
 moment_numbers i m = i ∷ m.day.0 ∷ name_of m.day.0 ∷ m.parts ∷ m.units ∷ []
 
--- The word before it, "qi" or "pentad",
-abbrev pub step_word : Steps → List ℕ
-step_word Qi = 113 ∷ 105 ∷ []
-step_word Pentads = 112 ∷ 101 ∷ 110 ∷ 116 ∷ 97 ∷ 100 ∷ []
+-- The line of step i, by the word before it, "qi" or "pentad", and its moment.
+abbrev pub step_line : List ℕ → ℕ → Moment → List ℕ
+step_line word i m = line word (moment_numbers i m)
 
--- and the step of a year that it tells.
-abbrev pub step_told : Steps → ℕ → ℕ → ℕ → Moment
-step_told Qi system year i = qi_of system year i
-step_told Pentads system year i = pentad_of system year i
+-- That of step i of those that have these moments.
+abbrev pub step_at : List ℕ → (ℕ → Moment) → ℕ → List ℕ
+step_at word moments i = step_line word i (moments i)
 
--- The line of step i.
-unfoldable pub step_line : Steps → ℕ → ℕ → ℕ → List ℕ
-step_line steps system year i = line (step_word steps) (moment_numbers i (step_told steps system year i))
-
--- So many steps of a year, from the first on.
-unfoldable pub step_lines : Steps → ℕ → ℕ → ℕ → List ℕ
-step_lines steps count system year = texts_up_to (step_line steps system year) count
+-- So many steps, from the first on.
+unfoldable pub step_lines : List ℕ → (ℕ → Moment) → ℕ → List ℕ
+step_lines word moments count = texts_up_to (step_at word moments) count

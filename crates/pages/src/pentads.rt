@@ -4,7 +4,6 @@ ghost use Rattle.text.specs.Wrote.{Wrote};
 ghost use Rattle.pages.specs.PentadPages.{pentads_page, in_force_line, pentad_line};
 
 use crate::steps;
-use crate::steps::Steps;
 use calendar::data::RegisterDay;
 
 // The pentads of a year, or the line of its refusal.
@@ -17,7 +16,13 @@ pub(crate) fn page(out: &mut [u8], at: usize, system: u32, year: u32) -> usize
         return text::refused(out, at, refusal);
     }
     let at = text::title(out, at, b"pentads ", system, year);
-    steps::lines(out, at, Steps::Pentads, 72, system, year)
+    steps::lines(
+        out,
+        at,
+        b"pentad",
+        72,
+        |i| reckoning::pentad(system, year, i),
+    )
 }
 
 // A day, and the pentad in force at its end with the system's letter and its year.

@@ -4,7 +4,6 @@ ghost use Rattle.text.specs.Wrote.{Wrote};
 ghost use Rattle.pages.specs.Printable.{Printable};
 ghost use Rattle.pages.specs.Page.{year_line, sheet_names, names_line, year_lines, page_of};
 
-use crate::steps::Steps;
 use crate::{months, steps};
 use reckoning::data::{Sheet, Year};
 
@@ -53,7 +52,7 @@ fn year_lines(
     ensures { Wrote out.old at (year_lines system year months days sheet) out.new result × (result ≤ at + 8192) }
 {
     let at = year_line(out, at, system, year, months.count, days);
-    let at = steps::lines(out, at, Steps::Qi, 25, system, year);
+    let at = steps::lines(out, at, b"qi", 25, |i| reckoning::qi(system, year, i));
     let at = months::lines(out, at, months);
     let at = months::next_line(out, at, months);
     names_line(out, at, sheet, days)

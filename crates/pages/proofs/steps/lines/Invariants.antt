@@ -1,9 +1,13 @@
-use Prim.Native.Nat.{◌+◌, ◌*◌, ◌≤◌}
+use Prim.Native.Nat.{ℕ, ◌+◌, ◌*◌, ◌≤◌}
+use mathlib.Core.Path.{◌≡◌}
+use Rattle.reckoning.specs.declared.data.Moment.{Moment}
 use Rattle.text.specs.Wrote.{Wrote}
 use Rattle.text.specs.Piece.{texts_up_to}
-use Rattle.pages.specs.StepLines.{step_line}
+use Rattle.pages.specs.StepLines.{step_at}
 use Rattle.pages.proofs.steps.lines.Given as goal
 
 abbrev pub invariant-loop-i : goal.invariant-loop-i
-invariant-loop-i l =
-    (l.at ≤ l.start + 62 * l.i) × Wrote l.initial.out l.start (texts_up_to (step_line l.steps l.system l.year) l.i) l.out l.at
+invariant-loop-i g l =
+    (l.at ≤ l.start + 62 * l.i)
+    × ((moments : ℕ → Moment) → ((i : ℕ) (m : Moment) → goal.F-post g l.moment i m → m ≡ moments i)
+    → Wrote l.initial.out l.start (texts_up_to (step_at l.word moments) l.i) l.out l.at)
