@@ -1,10 +1,11 @@
 -- Submerged and extinguished days: paper 02, Q-10, in the order of its sentences. What is said of an answer is said for
 -- every input; what is said of remainders, for every one that there can be.
 use Prim.Native.Nat.{ℕ, ◌+◌, ◌*◌, ◌≤◌, ◌<◌}
-use mathlib.Core.Path.{◌≡◌, subst, sym, ◌∙◌}
+use mathlib.Core.Path.{◌≡◌, subst}
 use mathlib.Core.Logic.{◌↔◌}
 use native.Mathlib.Omega.{arith}
 use lib.ListN.{get_or}
+use Rattle.std.proofs.Common.{Option, Some, None}
 use Rattle.calendar.specs.declared.data.Constants.{Constants}
 use Rattle.calendar.specs.Systems.{guantian, jiyuan, constants_of, years_elapsed}
 use Rattle.calendar.specs.Month.{new_moon_remainder, month_length}
@@ -14,8 +15,6 @@ use Rattle.calendar.proofs.Spans.{span_first, span_next}
 use Rattle.reckoning.specs.Requests.{qi_of}
 use Rattle.reckoning.specs.Scope.{YearInScope, InScope}
 use Rattle.submerged_extinguished.specs.declared.data.Answer.{Answer}
-use Rattle.submerged_extinguished.specs.declared.data.Distance.{Distance}
-use Rattle.submerged_extinguished.specs.declared.data.Distance.TheVariants.{Days, None}
 use Rattle.submerged_extinguished.specs.declared.rules.Rule.{Rule}
 use Rattle.submerged_extinguished.specs.Rules.{guantian_rule, jiyuan_rule, HasRule, rule_of}
 use Rattle.submerged_extinguished.specs.Distances.{SubmergedSays, ExtinguishedSays, GuantianSays, JiyuanSays}
@@ -37,11 +36,11 @@ extinguished_answered = extinguished_outcome
 
 -- A qi has a submerged day when its remainder is 9,402 whole parts or more, or 5,697 and a quarter or more; its distance
 -- by each system's own words.
-pub guantian_words : (parts units : ℕ) → parts < 12_030 → units < 36 → (d : Distance)
+pub guantian_words : (parts units : ℕ) → parts < 12_030 → units < 36 → (d : Option ℕ)
     → SubmergedSays guantian guantian_rule (exact_remainder guantian parts units) d ↔ GuantianSays parts units d
 guantian_words = Each.guantian_words
 
-pub jiyuan_words : (parts units : ℕ) → parts < 7290 → units < 4 → (d : Distance)
+pub jiyuan_words : (parts units : ℕ) → parts < 7290 → units < 4 → (d : Option ℕ)
     → SubmergedSays jiyuan jiyuan_rule (exact_remainder jiyuan parts units) d ↔ JiyuanSays parts units d
 jiyuan_words = Each.jiyuan_words
 
@@ -73,11 +72,11 @@ module _ (system : ℕ) (has : HasRule system) where
 
   module _ (r : ℕ) (below : r < c.solar * c.units) where
     -- Of a remainder one distance is said, or none.
-    pub submerged_alone : (d : Distance) → SubmergedSays c rule r d → d ≡ submerged_by c rule r
+    pub submerged_alone : (d : Option ℕ) → SubmergedSays c rule r d → d ≡ submerged_by c rule r
     submerged_alone = Rules.submerged_alone c rule (Each.rule_holds system has) r below
 
     -- Submerged distances are 1 to 16,
-    pub one_to_sixteen : (days : ℕ) → SubmergedSays c rule r (Days days) → (1 ≤ days) × (days ≤ 16)
+    pub one_to_sixteen : (days : ℕ) → SubmergedSays c rule r (Some days) → (1 ≤ days) × (days ≤ 16)
     one_to_sixteen = Rules.submerged_range c rule (Each.rule_holds system has) r below
 
     -- and otherwise, below the limit, the answer is none.
@@ -85,11 +84,11 @@ module _ (system : ℕ) (has : HasRule system) where
     none_below_limit = Rules.none_below c rule (Each.rule_holds system has) r below
 
   module _ (r : ℕ) where
-    pub extinguished_alone : (d : Distance) → ExtinguishedSays rule r d → d ≡ extinguished_by rule r
+    pub extinguished_alone : (d : Option ℕ) → ExtinguishedSays rule r d → d ≡ extinguished_by rule r
     extinguished_alone = Rules.extinguished_alone c rule (Each.rule_holds system has) r
 
     -- Extinguished distances are 0 to 29,
-    pub zero_to_twenty_nine : (days : ℕ) → ExtinguishedSays rule r (Days days) → days ≤ 29
+    pub zero_to_twenty_nine : (days : ℕ) → ExtinguishedSays rule r (Some days) → days ≤ 29
     zero_to_twenty_nine = Rules.extinguished_range c rule (Each.rule_holds system has) r
 
     -- and otherwise the answer is none.
@@ -101,14 +100,10 @@ module _ (system : ℕ) (has : HasRule system) where
   in_short_months = Moons.in_short_months c (consistent system) rule (Each.rule_holds system has)
 
 -- The same ranges, of the answers, whatever is asked.
-abbrev IsNone : Distance → Type 0
-IsNone None = Unit {0}
-IsNone (Days days) = ⊥
+refused_none : {number : ℕ} {v : Answer} {days : ℕ} → Refused number v → v.distance ≡ Some days → ⊥
+refused_none refused e = cc (refused.no_distance, e)
 
-refused_none : {number : ℕ} {v : Answer} {days : ℕ} → Refused number v → v.distance ≡ Days days → ⊥
-refused_none refused e = subst IsNone (sym refused.no_distance ∙ e) tt
-
-pub submerged_answers : (system year i days : ℕ) → (submerged_of system year i).distance ≡ Days days → (1 ≤ days) × (days ≤ 16)
+pub submerged_answers : (system year i days : ℕ) → (submerged_of system year i).distance ≡ Some days → (1 ≤ days) × (days ≤ 16)
 submerged_answers system year i days e = by_outcome (submerged_outcome system year i)
   where
     by_outcome : SubmergedOutcome system year i (submerged_of system year i) → (1 ≤ days) × (days ≤ 16)
@@ -119,7 +114,7 @@ submerged_answers system year i days e = by_outcome (submerged_outcome system ye
         one_to_sixteen system f.has_rule f.remainder f.falls.below days
         (subst (SubmergedSays (constants_of system) (rule_of system) f.remainder) e f.says)
 
-pub extinguished_answers : (system year place days : ℕ) → (extinguished_of system year place).distance ≡ Days days → days ≤ 29
+pub extinguished_answers : (system year place days : ℕ) → (extinguished_of system year place).distance ≡ Some days → days ≤ 29
 extinguished_answers system year place days e = by_outcome (extinguished_outcome system year place)
   where
     by_outcome : ExtinguishedOutcome system year place (extinguished_of system year place) → days ≤ 29

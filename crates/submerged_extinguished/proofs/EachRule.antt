@@ -3,17 +3,15 @@ use Prim.Native.Nat.{ℕ, ◌+◌, ◌*◌, ◌-◌, ◌<◌}
 use mathlib.Core.Path.{◌≡◌, refl, subst}
 use mathlib.Core.Logic.{◌↔◌}
 use native.Mathlib.Omega.{arith}
+use Rattle.std.proofs.Common.{Option, Some, None}
 use Rattle.calendar.specs.declared.data.Constants.{Constants}
 use Rattle.calendar.specs.Systems.{guantian, jiyuan, constants_of}
 use Rattle.calendar.specs.Steps.{step}
 use Rattle.calendar.proofs.Rising.{by_order}
-use Rattle.submerged_extinguished.specs.declared.data.Distance.{Distance}
-use Rattle.submerged_extinguished.specs.declared.data.Distance.TheVariants.{Days, None}
 use Rattle.submerged_extinguished.specs.declared.rules.Rule.{Rule}
 use Rattle.submerged_extinguished.specs.Rules.{guantian_rule, jiyuan_rule, rule_of, HasRule}
 use Rattle.submerged_extinguished.specs.Distances.{SubmergedSays, GuantianSays, JiyuanSays}
 use Rattle.submerged_extinguished.specs.RuleHolds.{RuleHolds}
-use Rattle.submerged_extinguished.specs.WordBounds.{RuleFits}
 use Rattle.submerged_extinguished.specs.Answers.{exact_remainder}
 
 -- What holds of the rule of each system holds of the one that a system's number picks.
@@ -33,16 +31,10 @@ jiyuan_holds = omega arith
 pub rule_holds : (system : ℕ) → HasRule system → RuleHolds (constants_of system) (rule_of system)
 rule_holds = each_rule RuleHolds guantian_holds jiyuan_holds
 
-pub rule_fits : (system : ℕ) → HasRule system → RuleFits (constants_of system) (rule_of system)
-rule_fits =
-    each_rule RuleFits
-    (record { holds = guantian_holds; day_small = omega arith; minuend_small = omega arith; lunar_small = omega arith; shortfall_small = omega arith })
-    (record { holds = jiyuan_holds; day_small = omega arith; minuend_small = omega arith; lunar_small = omega arith; shortfall_small = omega arith })
-
 -- Each system's own words, for every remainder that there can be.
-pub guantian_words : (parts units : ℕ) → parts < 12_030 → units < 36 → (d : Distance)
+pub guantian_words : (parts units : ℕ) → parts < 12_030 → units < 36 → (d : Option ℕ)
     → SubmergedSays guantian guantian_rule (exact_remainder guantian parts units) d ↔ GuantianSays parts units d
-guantian_words parts units p q (Days days) = (
+guantian_words parts units p q (Some days) = (
   λ says. let whole = says.1.is in let cut = says.1.distance in (omega arith, (omega arith, omega arith)),
   λ says.
       let left = 4_393_880 - 360 * parts - 10 * units in
@@ -50,9 +42,9 @@ guantian_words parts units p q (Days days) = (
 )
 guantian_words parts units p q None = (λ says. omega arith, λ says. omega arith)
 
-pub jiyuan_words : (parts units : ℕ) → parts < 7290 → units < 4 → (d : Distance)
+pub jiyuan_words : (parts units : ℕ) → parts < 7290 → units < 4 → (d : Option ℕ)
     → SubmergedSays jiyuan jiyuan_rule (exact_remainder jiyuan parts units) d ↔ JiyuanSays parts units d
-jiyuan_words parts units p q (Days days) = (
+jiyuan_words parts units p q (Some days) = (
   λ says. let whole = says.1.is in let cut = says.1.distance in (omega arith, (omega arith, omega arith)),
   λ says.
       let left = 4 * 443_771 - 60 * (4 * parts + units) in

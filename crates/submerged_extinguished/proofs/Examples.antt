@@ -2,18 +2,18 @@
 use Prim.Native.Nat.{ℕ}
 use mathlib.Core.Path.{◌≡◌, refl}
 use mathlib.Core.List.{[], ◌∷◌, ◌++◌, map}
+use Rattle.std.proofs.Common.{Some, None}
 use Rattle.reckoning.specs.ComputedRefusals.{year_refusal, step_refusal}
 use Rattle.reckoning.specs.Filled.{filled}
 use Rattle.reckoning.specs.Requests.{as_register_day, step_of}
 use Rattle.submerged_extinguished.specs.declared.data.Answer.{Answer}
-use Rattle.submerged_extinguished.specs.declared.data.Distance.TheVariants.{Days, None}
 use Rattle.submerged_extinguished.specs.Rules.{guantian_rule, jiyuan_rule}
 use Rattle.submerged_extinguished.specs.Answers.{submerged_by, extinguished_by, submerged_after, answer_at, submerged_in, submerged_of}
 use Rattle.submerged_extinguished.specs.Answers.{extinguished_from, extinguished_days_of, extinguished_of}
 
 -- So many days after a day, and none after it.
 abbrev after : ℕ → ℕ → Answer
-after days day = answer_at (as_register_day day) (Days days)
+after days day = answer_at (as_register_day day) (Some days)
 
 abbrev none_after : ℕ → Answer
 none_after day = answer_at (as_register_day day) None
@@ -69,7 +69,7 @@ submerged_refused = refl
 -- At the limits, where no year has such a remainder: 9,401 parts and 35 small units, and 9,402; 5,697, and a quarter.
 pub submerged_limits :
     submerged_after 1 9401 35 ∷ submerged_after 1 9402 0 ∷ submerged_after 2 5697 0 ∷ submerged_after 2 5697 1 ∷ []
-    ≡ None ∷ Days 15 ∷ None ∷ Days 16 ∷ []
+    ≡ None ∷ Some 15 ∷ None ∷ Some 16 ∷ []
 unfolding submerged_by
 submerged_limits = refl
 
@@ -77,7 +77,7 @@ submerged_limits = refl
 pub extinguished_limits :
     map (extinguished_by guantian_rule) (0 ∷ 188 ∷ 189 ∷ 5646 ∷ 5647 ∷ [])
     ++ map (extinguished_by jiyuan_rule) (0 ∷ 114 ∷ 115 ∷ 3421 ∷ 3422 ∷ [])
-    ≡ Days 0 ∷ Days 0 ∷ Days 1 ∷ Days 29 ∷ None ∷ Days 0 ∷ Days 0 ∷ Days 1 ∷ Days 29 ∷ None ∷ []
+    ≡ Some 0 ∷ Some 0 ∷ Some 1 ∷ Some 29 ∷ None ∷ Some 0 ∷ Some 0 ∷ Some 1 ∷ Some 29 ∷ None ∷ []
 unfolding extinguished_by
 extinguished_limits = refl
 

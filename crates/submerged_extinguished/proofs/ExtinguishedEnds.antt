@@ -231,9 +231,6 @@ module _ (system year place : ℕ) {got : ExtinguishedDays} (asked : got ≡ ext
     (test : b ≡ outside 1 got.count place)
     (into : b ≡ false)
   where
-    pub place_from : 1 ≤ place
-    place_from = (inside_of 1 got.count place (sym test ∙ into)).at_least
-
     pub index_there : place - 1 < 13
     index_there =
         omega (

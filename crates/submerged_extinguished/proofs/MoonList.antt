@@ -1,17 +1,10 @@
 -- The new moons of a year as the code goes through them.
-use Prim.Native.Nat.{ℕ, ◌+◌, ◌*◌, ◌-◌, ◌%◌, ◌^◌, ◌≤◌, ◌<◌}
-use mathlib.Core.Path.{◌≡◌, sym, ap, ◌∙◌}
+use Prim.Native.Nat.{ℕ, ◌+◌, ◌<◌}
+use mathlib.Core.Path.{◌≡◌, ap, ◌∙◌}
 use mathlib.Core.List.{List}
-use native.Mathlib.Nat.{mul-le-mul_right}
 use native.Mathlib.Omega.{arith}
 use lib.ListN.{set}
-use borrow.Author.Tests.{lt-ltb, le-ltb}
-use mir.Syntax.{w64}
-use mir.Val.{Fits}
 use Rattle.calendar.specs.declared.data.Constants.{Constants}
-use Rattle.calendar.specs.Systems.{register_day, count_day}
-use Rattle.calendar.specs.Month.{new_moon_remainder, month_head}
-use Rattle.calendar.specs.ClosedForms.{month_of_day}
 use Rattle.calendar.proofs.HeldQi.{remainder_below}
 use Rattle.reckoning.specs.Filled.{filled}
 use Rattle.reckoning.specs.WordBounds.{MonthsInRegister}
@@ -22,43 +15,9 @@ use Rattle.submerged_extinguished.specs.declared.moons.Moon.{Moon}
 use Rattle.submerged_extinguished.specs.declared.rules.Rule.{Rule}
 use Rattle.submerged_extinguished.specs.Answers.{extinguished_at, no_moons, extinguished_from}
 use Rattle.submerged_extinguished.specs.Moons.{moon_at, moon_after, extinguished_on}
-use Rattle.submerged_extinguished.specs.WordBounds.{RuleFits, HeadFits, MoonFits}
-use Rattle.submerged_extinguished.proofs.MoonLaws.{next_moon, left_of_day}
-
--- The first new moon, by the year's head r: the code's numbers fit.
-module _ {c : Constants} {r : ℕ} (f : HeadFits c r) where
-  abbrev d : ℕ
-  d = count_day c r
-
-  pub end_fits : Fits w64 ((r + c.anchor - c.epoch + 1) * c.lunar)
-  end_fits =
-      let small : d + 1 ≤ 2 ^ 38 = omega (arith, f.in_register) in
-      omega (arith, mul-le-mul_right c.lunar small, f.constants_fit.lunar_days)
-
-  left : new_moon_remainder c (month_of_day c d) + ((d + 1) * c.lunar - 1) % c.month + 1 ≡ c.lunar
-  left = left_of_day c f.constants_fit.consistent d f.begins_month
-
-  pub left_fits : ((d + 1) * c.lunar - 1) % c.month ≤ c.lunar - 1
-  left_fits = omega (arith, left)
-
-  pub first_moon_lem : {m : Moon} → m ≡ record { day = r; remainder = c.lunar - 1 - ((d + 1) * c.lunar - 1) % c.month }
-      → m ≡ moon_at c (month_of_day c d)
-  first_moon_lem is =
-      let day : r ≡ register_day c (month_head c (month_of_day c d)) = sym f.back ∙ ap (register_day c) (sym f.begins_month) in
-      let remainder : c.lunar - 1 - ((d + 1) * c.lunar - 1) % c.month ≡ (moon_at c (month_of_day c d)).remainder = omega (arith, left) in
-      is ∙ (λ j. record { day = day j; remainder = remainder j })
-
--- The next one, by the test for it.
-module _ (c : Constants) (rule : Rule) (m : Moon) where
-  pub after_short : m.remainder < rule.shortfall
-      → ◌≡◌ {A = Moon} (record { day = m.day + 29; remainder = m.remainder + c.lunar - rule.shortfall }) (moon_after c rule m)
-  unfolding moon_after
-  after_short l = simp (lt-ltb m.remainder rule.shortfall l)
-
-  pub after_long : rule.shortfall ≤ m.remainder
-      → ◌≡◌ {A = Moon} (record { day = m.day + 30; remainder = m.remainder - rule.shortfall }) (moon_after c rule m)
-  unfolding moon_after
-  after_long l = simp (le-ltb m.remainder rule.shortfall l)
+use Rattle.submerged_extinguished.specs.RuleHolds.{RuleHolds}
+use Rattle.submerged_extinguished.specs.WordBounds.{MoonFits}
+use Rattle.submerged_extinguished.proofs.MoonLaws.{next_moon}
 
 -- So far i new moons are listed, and `moon` is the next, counted from the new moon of whatever month was the first.
 pub record Listing (c : Constants) (rule : Rule) (count : ℕ) (start : Moon) (i : ℕ) (moons : List Extinguished) (moon : Moon) : Type 0 where
@@ -75,22 +34,21 @@ module _ {c : Constants} {rule : Rule} {count : ℕ} {start : Moon} where
             (at ∙ ap (moon_at c) here, is ∙ filled_none _ _);
       }
 
-  module _ {i : ℕ} {moons : List Extinguished} {moon : Moon} (l : Listing c rule count start i moons moon) (f : RuleFits c rule) where
-    pub moon_fits : (k : ℕ) → start ≡ moon_at c k → MonthsInRegister c k count → i < count → MoonFits c rule moon
+  module _ {i : ℕ} {moons : List Extinguished} {moon : Moon} (l : Listing c rule count start i moons moon) where
+    pub moon_fits : (k : ℕ) → start ≡ moon_at c k → MonthsInRegister c k count → i < count → MoonFits c moon
     moon_fits k at there h =
         let is = (l.so_far k at there).0 in
         let day = ap (λ m. m.day) is in
         let remainder = ap (λ m. m.remainder) is in
         let ok = there.constants_fit.consistent in
         record {
-          rule_fits = f;
           day_small = omega (arith, there.head i (omega arith));
           remainder_below = omega (arith, remainder_below c ok (k + i));
         }
 
-    pub listing_more : {one : Extinguished} {next : Moon} → i < count → one ≡ extinguished_on rule moon → next ≡ moon_after c rule moon
+    pub listing_more : {one : Extinguished} {next : Moon} → RuleHolds c rule → i < count → one ≡ extinguished_on rule moon → next ≡ moon_after c rule moon
         → Listing c rule count start (i + 1) (set moons i one) next
-    listing_more h one-is next_is =
+    listing_more holds h one-is next_is =
         record {
           so_far =
               λ k at there.
@@ -99,7 +57,7 @@ module _ {c : Constants} {rule : Rule} {count : ℕ} {start : Moon} where
               let on : k + i + 1 ≡ k + (i + 1) = omega arith in (
                 next_is
                     ∙ ap (moon_after c rule) so.0
-                    ∙ next_moon c ok rule f.holds (k + i) (there.head i (omega arith))
+                    ∙ next_moon c ok rule holds (k + i) (there.head i (omega arith))
                     ∙ ap (moon_at c) on,
                 filled_more _ _ _ _ _ so.1 (one-is ∙ ap (extinguished_on rule) so.0),
               );

@@ -5,11 +5,10 @@ use mathlib.Core.Logic.{◌↔◌}
 use native.Mathlib.Nat.{mul-pos, mul-le-mul_left, mul-le-mul_right, le-div_iff_mul-le, div-lt_iff_lt-mul}
 use native.Mathlib.Omega.{arith}
 use borrow.Author.Tests.{lt-ltb, le-ltb}
+use Rattle.std.proofs.Common.{Option, Some, None}
 use Rattle.calendar.specs.declared.data.Constants.{Constants}
 use Rattle.calendar.proofs.Division.{cut_down, cut_down_is}
 use Rattle.calendar.proofs.Rising.{by_order}
-use Rattle.submerged_extinguished.specs.declared.data.Distance.{Distance}
-use Rattle.submerged_extinguished.specs.declared.data.Distance.TheVariants.{Days, None}
 use Rattle.submerged_extinguished.specs.declared.rules.Rule.{Rule}
 use Rattle.submerged_extinguished.specs.Distances.{SubmergedDistance, SubmergedSays, ExtinguishedSays}
 use Rattle.submerged_extinguished.specs.RuleHolds.{RuleHolds}
@@ -70,13 +69,13 @@ module _ (c : Constants) (rule : Rule) (ok : RuleHolds c rule) where
         cut_down_is after.difference divisor divisor_some d after.distance ∙ ap (λ x. x / divisor) same
 
     -- and nothing else is.
-    pub submerged_alone : (d : Distance) → SubmergedSays c rule r d → d ≡ submerged_by c rule r
+    pub submerged_alone : (d : Option ℕ) → SubmergedSays c rule r d → d ≡ submerged_by c rule r
     unfolding submerged_by
-    submerged_alone (Days d) says = simp (le-ltb r rule.limit says.0) (ap Days (after_is d says.1))
+    submerged_alone (Some d) says = simp (le-ltb r rule.limit says.0) (ap Some (after_is d says.1))
     submerged_alone None says = simp (lt-ltb r rule.limit says) refl
 
     -- Submerged distances are 1 to 16,
-    pub submerged_range : (d : ℕ) → SubmergedSays c rule r (Days d) → (1 ≤ d) × (d ≤ 16)
+    pub submerged_range : (d : ℕ) → SubmergedSays c rule r (Some d) → (1 ≤ d) × (d ≤ 16)
     submerged_range d says =
         let is = after_is d says.1 in
         (omega (arith, days_least), omega (arith, days_most says.0))
@@ -94,10 +93,10 @@ module _ (c : Constants) (rule : Rule) (ok : RuleHolds c rule) where
       (λ l. simp (lt-ltb r rule.shortfall l) (l, cut_down (30 * r) rule.shortfall ok.shortfall_some))
       (λ l. simp (le-ltb r rule.shortfall l) l)
 
-  pub extinguished_alone : (r : ℕ) (d : Distance) → ExtinguishedSays rule r d → d ≡ extinguished_by rule r
+  pub extinguished_alone : (r : ℕ) (d : Option ℕ) → ExtinguishedSays rule r d → d ≡ extinguished_by rule r
   unfolding extinguished_by
-  extinguished_alone r (Days d) says =
-      simp (lt-ltb r rule.shortfall says.0) (ap Days (cut_down_is (30 * r) rule.shortfall ok.shortfall_some d says.1))
+  extinguished_alone r (Some d) says =
+      simp (lt-ltb r rule.shortfall says.0) (ap Some (cut_down_is (30 * r) rule.shortfall ok.shortfall_some d says.1))
   extinguished_alone r None says = simp (le-ltb r rule.shortfall says) refl
 
   -- Extinguished distances are 0 to 29,
@@ -105,7 +104,7 @@ module _ (c : Constants) (rule : Rule) (ok : RuleHolds c rule) where
   thirty_times r l =
       let below : 30 * r / rule.shortfall < 30 = (div-lt_iff_lt-mul ok.shortfall_some).1 (omega arith) in omega arith
 
-  pub extinguished_range : (r d : ℕ) → ExtinguishedSays rule r (Days d) → d ≤ 29
+  pub extinguished_range : (r d : ℕ) → ExtinguishedSays rule r (Some d) → d ≤ 29
   extinguished_range r d says =
       omega (arith, cut_down_is (30 * r) rule.shortfall ok.shortfall_some d says.1, thirty_times r says.0)
 

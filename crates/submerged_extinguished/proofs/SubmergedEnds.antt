@@ -4,6 +4,7 @@ use mathlib.Core.Path.{◌≡◌, refl, subst, sym, ap, ◌∙◌}
 use mathlib.Core.Bool.{Bool, true, false}
 use native.Mathlib.Omega.{arith}
 use borrow.Author.Tests.{eq-eqb, ne_eqb}
+use Rattle.std.proofs.Common.{Option}
 use Rattle.calendar.specs.declared.data.Constants.{Constants}
 use Rattle.calendar.specs.Systems.{constants_of}
 use Rattle.calendar.proofs.Rising.{by_order}
@@ -16,7 +17,6 @@ use Rattle.reckoning.proofs.RefusalCases.{inside, step_unseen, step_refused, acc
 use Rattle.reckoning.proofs.RefusedRequests.{qi_blank}
 use Rattle.reckoning.proofs.AnswersRight.{qi_holds}
 use Rattle.submerged_extinguished.specs.declared.data.Answer.{Answer}
-use Rattle.submerged_extinguished.specs.declared.data.Distance.{Distance}
 use Rattle.submerged_extinguished.specs.Rules.{last_rule, HasRule, rule_of}
 use Rattle.submerged_extinguished.specs.Distances.{SubmergedSays}
 use Rattle.submerged_extinguished.specs.Answers.{exact_remainder, submerged_after, no_answer, answer_at}
@@ -135,7 +135,7 @@ module _ (system year i : ℕ) {b : Bool} (test : b ≡ outside 1 last_rule syst
     returns_refusal some is =
         is ∙ sym (refused_as system (rule_tested system test into) qi qi.refusal refl some) ∙ ap (submerged_in system) asked
 
-    pub returns_distance : {d : Distance} → qi.refusal ≡ 0 → d ≡ submerged_after system qi.parts qi.units
+    pub returns_distance : {d : Option ℕ} → qi.refusal ≡ 0 → d ≡ submerged_after system qi.parts qi.units
         → answer_at qi.day d ≡ submerged_of system year i
     returns_distance none is =
         ap (answer_at qi.day) is

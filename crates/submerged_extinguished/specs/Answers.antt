@@ -1,5 +1,5 @@
 -- What is answered of submerged and extinguished days, for every input: paper 02, Q-10.
-use Rattle.std.specs.Prelude.{ℕ, ◌+◌, ◌*◌, ◌-◌, ◌/◌, cond, List, ltb, eqb, get_or, replicate}
+use Rattle.std.specs.Prelude.{ℕ, ◌+◌, ◌*◌, ◌-◌, ◌/◌, cond, List, ltb, eqb, get_or, replicate, Option, Some, None}
 use Rattle.calendar.specs.declared.data.Constants.{Constants}
 use Rattle.calendar.specs.declared.data.RegisterDay.{RegisterDay}
 use Rattle.calendar.specs.Systems.{constants_of, register_day}
@@ -11,8 +11,6 @@ use Rattle.reckoning.specs.Filled.{filled}
 use Rattle.reckoning.specs.RefusalNumbers.{SYSTEM, DAY}
 use Rattle.reckoning.specs.Requests.{as_register_day, answer_unless, qi_of}
 use Rattle.submerged_extinguished.specs.declared.data.Answer.{Answer}
-use Rattle.submerged_extinguished.specs.declared.data.Distance.{Distance}
-use Rattle.submerged_extinguished.specs.declared.data.Distance.TheVariants.{Days, None}
 use Rattle.submerged_extinguished.specs.declared.data.Extinguished.{Extinguished}
 use Rattle.submerged_extinguished.specs.declared.data.ExtinguishedDays.{ExtinguishedDays}
 use Rattle.submerged_extinguished.specs.declared.rules.Rule.{Rule}
@@ -23,18 +21,18 @@ abbrev pub exact_remainder : Constants → ℕ → ℕ → ℕ
 exact_remainder c parts units = parts * c.units + units
 
 -- The distance after a qi with a remainder of r small units; one division.
-unfoldable pub submerged_by : Constants → Rule → ℕ → Distance
+unfoldable pub submerged_by : Constants → Rule → ℕ → Option ℕ
 submerged_by c rule r =
     cond (ltb r rule.limit)
     None
-    (Days ((rule.minuend * c.units - rule.multiplier * r) / (rule.divisor * c.units)))
+    (Some ((rule.minuend * c.units - rule.multiplier * r) / (rule.divisor * c.units)))
 
 -- The distance after a new moon with a remainder of r parts.
-unfoldable pub extinguished_by : Rule → ℕ → Distance
-extinguished_by rule r = cond (ltb r rule.shortfall) (Days (30 * r / rule.shortfall)) None
+unfoldable pub extinguished_by : Rule → ℕ → Option ℕ
+extinguished_by rule r = cond (ltb r rule.shortfall) (Some (30 * r / rule.shortfall)) None
 
 -- By the rule that a system's number picks.
-abbrev pub submerged_after : ℕ → ℕ → ℕ → Distance
+abbrev pub submerged_after : ℕ → ℕ → ℕ → Option ℕ
 submerged_after system parts units =
     submerged_by (constants_of system) (rule_of system) (exact_remainder (constants_of system) parts units)
 
@@ -42,7 +40,7 @@ submerged_after system parts units =
 abbrev pub no_answer : ℕ → Answer
 no_answer refusal = record { refusal = refusal; day = as_register_day 0; distance = None }
 
-abbrev pub answer_at : RegisterDay → Distance → Answer
+abbrev pub answer_at : RegisterDay → Option ℕ → Answer
 answer_at day distance = record { refusal = 0; day = day; distance = distance }
 
 -- The submerged day of a qi, by the moment that is answered for it. Refused SYSTEM where the system has no rule, then as

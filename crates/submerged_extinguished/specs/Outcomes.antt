@@ -1,5 +1,5 @@
 -- How a request for a submerged or an extinguished day can end, by the reckoning: paper 02, Q-10, in its words.
-use Rattle.std.specs.Prelude.{ℕ, ◌+◌, ◌*◌, ◌≤◌, ◌<◌, ◌≡◌}
+use Rattle.std.specs.Prelude.{ℕ, ◌+◌, ◌*◌, ◌≤◌, ◌<◌, ◌≡◌, None}
 use Rattle.calendar.specs.declared.data.Constants.{Constants}
 use Rattle.calendar.specs.Systems.{constants_of, years_elapsed, IsRegisterDay}
 use Rattle.calendar.specs.Qi.{qi}
@@ -8,7 +8,6 @@ use Rattle.calendar.specs.Year.{InYear}
 use Rattle.reckoning.specs.RefusalNumbers.{SYSTEM, YEAR, DAY, STEP}
 use Rattle.reckoning.specs.Scope.{YearInScope}
 use Rattle.submerged_extinguished.specs.declared.data.Answer.{Answer}
-use Rattle.submerged_extinguished.specs.declared.data.Distance.TheVariants.{None}
 use Rattle.submerged_extinguished.specs.Rules.{HasRule, rule_of}
 use Rattle.submerged_extinguished.specs.Distances.{SubmergedSays, ExtinguishedSays}
 

@@ -1,5 +1,5 @@
--- Bounds of machine words, under which the code's numbers fit. Each system that has a rule keeps them (see `rule_fits`),
--- and so do the heads and the new moons of years in scope.
+-- Bounds of machine words, under which the code's numbers fit. The numbers of each system that has a rule keep them
+-- (`src/rules.rt: Numbers`), and so do the heads and the new moons of years in scope.
 use Rattle.std.specs.Prelude.{ℕ, ◌*◌, ◌^◌, ◌≤◌, ◌<◌, ◌≡◌}
 use Rattle.calendar.specs.declared.data.Constants.{Constants}
 use Rattle.calendar.specs.Systems.{register_day, count_day}
@@ -25,7 +25,6 @@ pub record HeadFits (c : Constants) (r : ℕ) : Type 0 where
   pub begins_month : month_head c (month_of_day c (count_day c r)) ≡ count_day c r
 
 -- A new moon with the next one within the register.
-pub record MoonFits (c : Constants) (rule : Rule) (m : Moon) : Type 0 where
-  pub rule_fits : RuleFits c rule
+pub record MoonFits (c : Constants) (m : Moon) : Type 0 where
   pub day_small : m.day < 2 ^ 31
   pub remainder_below : m.remainder < c.lunar

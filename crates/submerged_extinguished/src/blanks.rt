@@ -2,7 +2,7 @@
 ghost use Rattle.std.specs.Prelude.{◌≡◌};
 ghost use Rattle.submerged_extinguished.specs.Answers.{no_answer, unused, no_days};
 
-use crate::data::{Answer, Distance, Extinguished, ExtinguishedDays};
+use crate::data::{Answer, Extinguished, ExtinguishedDays};
 use calendar::data::RegisterDay;
 
 // No answer, with a refusal's number.
@@ -12,7 +12,7 @@ pub(crate) fn none(refusal: u8) -> Answer
     Answer {
         refusal: refusal,
         day: RegisterDay(0),
-        distance: Distance::None,
+        distance: None,
     }
 }
 
@@ -22,7 +22,7 @@ pub(crate) fn unused() -> Extinguished
 {
     Extinguished {
         day: RegisterDay(0),
-        distance: Distance::None,
+        distance: None,
     }
 }
 

@@ -3,48 +3,51 @@ ghost use Rattle.std.specs.Prelude.{◌≡◌, ◌<◌};
 ghost use Rattle.calendar.specs.Systems.{constants_of};
 ghost use Rattle.submerged_extinguished.specs.Rules.{HasRule};
 ghost use Rattle.submerged_extinguished.specs.Answers.{exact_remainder, submerged_by, submerged_after, extinguished_by};
-ghost use Rattle.submerged_extinguished.specs.WordBounds.{RuleFits};
 
-use crate::data::Distance;
 use crate::rules;
-use crate::rules::Rule;
-use calendar::data::Constants;
-use calendar::systems;
+use crate::rules::Numbers;
 
-// All in small units, so that nothing is rounded before the one division.
-fn submerged_by(c: Constants, rule: Rule, parts: u32, units: u32) -> Distance
-    requires { RuleFits c rule × (parts < c.solar) × (units < c.units) }
-    ensures { result ≡ submerged_by c rule (exact_remainder c parts units) }
-{
-    let remainder = parts as u64 * c.units + units as u64;
-    if remainder < rule.limit {
-        return Distance::None;
+impl Numbers {
+    // After a qi with a remainder of so many parts and small units. All in small units, so that nothing is rounded before
+    // the one division.
+    #[tactic(auto, unfolding(crate::specs::Answers::submerged_by))]
+    fn submerged(self, parts: u32, units: u32) -> Option<u8>
+        requires { (parts < self.constants.solar) × (units < self.constants.units) }
+        ensures { result ≡ submerged_by self.constants self.rule (exact_remainder self.constants parts units) }
+    {
+        let in_part = self.constants.units;
+        let rule = self.rule;
+        let remainder = parts as u64 * in_part + units as u64;
+        if remainder < rule.limit {
+            return None;
+        }
+        let left = rule.minuend * in_part - rule.multiplier * remainder;
+        let days = left / (rule.divisor * in_part);
+        Some(days as u8)
     }
-    let left = rule.minuend * c.units - rule.multiplier * remainder;
-    let days = left / (rule.divisor * c.units);
-    Distance::Days(days as u8)
+
+    // After a new moon with a remainder.
+    #[tactic(auto, unfolding(crate::specs::Answers::extinguished_by))]
+    pub(crate) fn extinguished(self, remainder: u64) -> Option<u8>
+        ensures { result ≡ extinguished_by self.rule remainder }
+    {
+        let shortfall = self.rule.shortfall;
+        if remainder < shortfall {
+            let days = 30 * remainder / shortfall;
+            Some(days as u8)
+        } else {
+            None
+        }
+    }
 }
 
-// After a qi with a remainder of so many parts and small units. The systems are named one by one, so that the compiler
-// knows the divisors.
-pub(crate) fn submerged(system: u32, parts: u32, units: u32) -> Distance
+// The systems are named one by one, so that the compiler knows the divisors.
+pub(crate) fn submerged(system: u32, parts: u32, units: u32) -> Option<u8>
     requires { HasRule system × (parts < (constants_of system).solar) × (units < (constants_of system).units) }
     ensures { result ≡ submerged_after system parts units }
 {
     match system {
-        2 => submerged_by(systems::jiyuan(), rules::jiyuan(), parts, units),
-        _ => submerged_by(systems::guantian(), rules::guantian(), parts, units),
+        2 => rules::jiyuan().submerged(parts, units),
+        _ => rules::guantian().submerged(parts, units),
     }
-}
-
-// After a new moon with a remainder.
-pub(crate) fn extinguished_by(c: Constants, rule: Rule, remainder: u64) -> Distance
-    requires { RuleFits c rule }
-    ensures { result ≡ extinguished_by rule remainder }
-{
-    if remainder < rule.shortfall {
-        let days = 30 * remainder / rule.shortfall;
-        return Distance::Days(days as u8);
-    }
-    Distance::None
 }

@@ -29,12 +29,10 @@ pub fn submerged(system: u32, year: u32, i: u32) -> Answer
     if refusal != 0 {
         return none(refusal);
     }
-    let day = qi.day;
-    let distance = distances::submerged(system, qi.parts, qi.units);
     Answer {
         refusal: 0,
-        day: day,
-        distance: distance,
+        day: qi.day,
+        distance: distances::submerged(system, qi.parts, qi.units),
     }
 }
 
@@ -67,13 +65,10 @@ pub fn extinguished(system: u32, year: u32, place: u32) -> Answer
     if outside(1, days.count as u32, place) {
         return none(DAY);
     }
-    let i = place as usize - 1;
-    let moon = days.moons[i];
-    let day = moon.day;
-    let distance = moon.distance;
+    let moon = days.moons[place as usize - 1];
     Answer {
         refusal: 0,
-        day: day,
-        distance: distance,
+        day: moon.day,
+        distance: moon.distance,
     }
 }

@@ -6,15 +6,13 @@ ghost use Rattle.reckoning.specs.WordBounds.{MonthsInRegister};
 ghost use Rattle.submerged_extinguished.specs.Answers.{extinguished_from};
 ghost use Rattle.submerged_extinguished.specs.Moons.{moon_at, moon_after, extinguished_on, months_in};
 ghost use Rattle.submerged_extinguished.specs.Rules.{HasRule, rule_of};
-ghost use Rattle.submerged_extinguished.specs.WordBounds.{RuleFits, HeadFits, MoonFits};
+ghost use Rattle.submerged_extinguished.specs.WordBounds.{HeadFits, MoonFits};
 
 use crate::blanks::unused;
 use crate::data::{Extinguished, ExtinguishedDays};
-use crate::distances::extinguished_by;
 use crate::rules;
-use crate::rules::Rule;
-use calendar::data::{Constants, RegisterDay};
-use calendar::systems;
+use crate::rules::Numbers;
+use calendar::data::RegisterDay;
 
 // A new moon: its register day and its remainder.
 #[derive(Clone, Copy)]
@@ -23,69 +21,69 @@ pub(crate) struct Moon {
     pub remainder: u64,
 }
 
-// The new moon of a month, by the month's head. A division of the day's last part by months leaves over what is left of
-// the day after the new moon.
-fn first(c: Constants, head: RegisterDay) -> Moon
-    requires { HeadFits c head.0 }
-    ensures { result ≡ moon_at c (month_of_day c (count_day c head.0)) }
-{
-    let day = head.0 as u64 + c.anchor - c.epoch;
-    let left = ((day + 1) * c.lunar - 1) % c.month;
-    let remainder = c.lunar - 1 - left;
-    Moon {
-        day: head.0,
-        remainder: remainder,
+impl Numbers {
+    // The new moon of a month, by the month's head. A division of the day's last part by months leaves over what is left
+    // of the day after the new moon.
+    fn first_moon(self, head: RegisterDay) -> Moon
+        requires { HeadFits self.constants head.0 }
+        ensures { result ≡ moon_at self.constants (month_of_day self.constants (count_day self.constants head.0)) }
+    {
+        let c = self.constants;
+        let day = head.0 as u64 + c.anchor - c.epoch;
+        let left = ((day + 1) * c.lunar - 1) % c.month;
+        let remainder = c.lunar - 1 - left;
+        Moon {
+            day: head.0,
+            remainder: remainder,
+        }
     }
-}
 
-// The next one. Thirty days later the remainder has lost the shortfall; where it is less, the day is the one before.
-fn after(c: Constants, rule: Rule, moon: Moon) -> Moon
-    requires { MoonFits c rule moon }
-    ensures { result ≡ moon_after c rule moon }
-{
-    if moon.remainder < rule.shortfall {
-        return Moon {
-            day: moon.day + 29,
-            remainder: moon.remainder + c.lunar - rule.shortfall,
-        };
+    // The next one. Thirty days later the remainder has lost the shortfall; where it is less, the day is the one before.
+    #[tactic(auto, unfolding(crate::specs::Moons::moon_after))]
+    fn next_moon(self, moon: Moon) -> Moon
+        requires { MoonFits self.constants moon }
+        ensures { result ≡ moon_after self.constants self.rule moon }
+    {
+        let shortfall = self.rule.shortfall;
+        if moon.remainder < shortfall {
+            return Moon {
+                day: moon.day + 29,
+                remainder: moon.remainder + self.constants.lunar - shortfall,
+            };
+        }
+        Moon {
+            day: moon.day + 30,
+            remainder: moon.remainder - shortfall,
+        }
     }
-    Moon {
-        day: moon.day + 30,
-        remainder: moon.remainder - rule.shortfall,
-    }
-}
 
-fn extinguished(c: Constants, rule: Rule, moon: Moon) -> Extinguished
-    requires { RuleFits c rule }
-    ensures { result ≡ extinguished_on rule moon }
-{
-    let day = RegisterDay(moon.day);
-    let distance = extinguished_by(c, rule, moon.remainder);
-    Extinguished {
-        day: day,
-        distance: distance,
+    // The extinguished day of a new moon.
+    fn extinguished_on(self, moon: Moon) -> Extinguished
+        ensures { result ≡ extinguished_on self.rule moon }
+    {
+        Extinguished {
+            day: RegisterDay(moon.day),
+            distance: self.extinguished(moon.remainder),
+        }
     }
-}
 
-// The extinguished days of `count` months, of which the first has this head.
-fn list(c: Constants, rule: Rule, head: RegisterDay, count: usize) -> ExtinguishedDays
-    requires { RuleFits c rule
-        × HeadFits c head.0
-        × MonthsInRegister c (month_of_day c (count_day c head.0)) count }
-    ensures { result ≡ extinguished_from c rule (month_of_day c (count_day c head.0)) count }
-{
-    let mut moons = [unused(); 13];
-    let mut moon = first(c, head);
-    let mut i = 0;
-    while i < count {
-        moons[i] = extinguished(c, rule, moon);
-        moon = after(c, rule, moon);
-        i += 1;
-    }
-    ExtinguishedDays {
-        refusal: 0,
-        count: count as u8,
-        moons: moons,
+    // Those of `count` months, of which the first has this head.
+    fn extinguished_days(self, head: RegisterDay, count: usize) -> ExtinguishedDays
+        requires { HeadFits self.constants head.0
+            × MonthsInRegister self.constants (month_of_day self.constants (count_day self.constants head.0)) count }
+        ensures { result ≡ extinguished_from self.constants self.rule (month_of_day self.constants (count_day self.constants head.0)) count }
+    {
+        let mut moons = [unused(); 13];
+        let mut moon = self.first_moon(head);
+        for i in 0..count {
+            moons[i] = self.extinguished_on(moon);
+            moon = self.next_moon(moon);
+        }
+        ExtinguishedDays {
+            refusal: 0,
+            count: count as u8,
+            moons: moons,
+        }
     }
 }
 
@@ -104,7 +102,7 @@ pub(crate) fn of_months(system: u32, head: RegisterDay, count: usize) -> Extingu
     ensures { result ≡ extinguished_from (constants_of system) (rule_of system) (month_of_day (constants_of system) (count_day (constants_of system) head.0)) count }
 {
     match system {
-        2 => list(systems::jiyuan(), rules::jiyuan(), head, count),
-        _ => list(systems::guantian(), rules::guantian(), head, count),
+        2 => rules::jiyuan().extinguished_days(head, count),
+        _ => rules::guantian().extinguished_days(head, count),
     }
 }

@@ -1,6 +1,11 @@
 // The numbers of the rules for submerged and extinguished days, of the systems that have them: those numbered 1 to LAST.
 ghost use Rattle.std.specs.Prelude.{◌≡◌};
+ghost use Rattle.calendar.specs.Systems.{guantian, jiyuan};
 ghost use Rattle.submerged_extinguished.specs.Rules.{guantian_rule, jiyuan_rule};
+ghost use Rattle.submerged_extinguished.specs.WordBounds.{RuleFits};
+
+use calendar::data::Constants;
+use calendar::systems;
 
 pub(crate) const LAST: u32 = 2;
 
@@ -17,26 +22,44 @@ pub(crate) struct Rule {
     pub shortfall: u64,
 }
 
-pub(crate) fn guantian() -> Rule
-    ensures { result ≡ guantian_rule }
+// The constants of a system that has a rule, and its rule.
+#[derive(Clone, Copy)]
+pub(crate) struct Numbers {
+    pub constants: Constants,
+    pub rule: Rule,
+    ghost fits: { RuleFits constants rule },
+}
+
+pub(crate) fn guantian() -> Numbers
+    ensures constants { result.constants ≡ guantian }
+    ensures rule { result.rule ≡ guantian_rule }
 {
-    Rule {
+    let rule = Rule {
         limit: 9402 * 36,
         minuend: 4_393_880,
         multiplier: 360,
         divisor: 63_080,
         shortfall: 5647,
+    };
+    Numbers {
+        constants: systems::guantian(),
+        rule: rule,
     }
 }
 
-pub(crate) fn jiyuan() -> Rule
-    ensures { result ≡ jiyuan_rule }
+pub(crate) fn jiyuan() -> Numbers
+    ensures constants { result.constants ≡ jiyuan }
+    ensures rule { result.rule ≡ jiyuan_rule }
 {
-    Rule {
+    let rule = Rule {
         limit: 5697 * 4 + 1,
         minuend: 443_771,
         multiplier: 60,
         divisor: 6371,
         shortfall: 3422,
+    };
+    Numbers {
+        constants: systems::jiyuan(),
+        rule: rule,
     }
 }

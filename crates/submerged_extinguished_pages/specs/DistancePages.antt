@@ -1,21 +1,18 @@
 -- The pages that the almanac prints of submerged and extinguished days: their lines, as bytes.
-use Rattle.std.specs.Prelude as Prelude
-use Rattle.std.specs.Prelude.{ℕ, ◌+◌, Some, List, [], ◌∷◌, ◌++◌, get_or}
+use Rattle.std.specs.Prelude.{ℕ, ◌+◌, List, [], ◌∷◌, ◌++◌, get_or, Option, Some, None}
 use Rattle.submerged_extinguished.specs.declared.data.Answer.{Answer}
-use Rattle.submerged_extinguished.specs.declared.data.Distance.{Distance}
-use Rattle.submerged_extinguished.specs.declared.data.Distance.TheVariants.{Days, None}
 use Rattle.submerged_extinguished.specs.declared.data.Extinguished.{Extinguished}
 use Rattle.submerged_extinguished.specs.declared.data.ExtinguishedDays.{ExtinguishedDays}
 use Rattle.submerged_extinguished.specs.Answers.{unused, submerged_of, extinguished_days_of}
 use Rattle.text.specs.Piece.{field, title, numbered, last_field, told_unless, texts_up_to}
 
 -- The distance, '-' for none, and the line's end.
-unfoldable pub line_end : Distance → List ℕ
-line_end (Days days) = last_field (Some days)
-line_end None = last_field Prelude.None
+unfoldable pub line_end : Option ℕ → List ℕ
+line_end (Some days) = last_field (Some days)
+line_end None = last_field None
 
 -- A word, a number, the day of a qi or new moon, and the distance.
-unfoldable pub distance_line : List ℕ → ℕ → ℕ → Distance → List ℕ
+unfoldable pub distance_line : List ℕ → ℕ → ℕ → Option ℕ → List ℕ
 distance_line bytes number day distance = numbered bytes number ++ (field day ++ line_end distance)
 
 -- A page: its first line and those of its answers; or the line of its refusal.

@@ -4,16 +4,15 @@ ghost use Rattle.text.specs.Wrote.{Wrote};
 ghost use Rattle.submerged_extinguished_pages.specs.DistancePages.{line_end, distance_line};
 
 use calendar::data::RegisterDay;
-use submerged_extinguished::data::Distance;
 
 // The distance, or '-' for none, and the line's end.
-fn line_end(out: &mut [u8], at: usize, distance: Distance) -> usize
+fn line_end(out: &mut [u8], at: usize, distance: Option<u8>) -> usize
     requires { at + 12 ≤ length out.old }
     ensures { Wrote out.old at (line_end distance) out.new result × (result ≤ at + 12) }
 {
     match distance {
-        Distance::Days(days) => text::last_field(out, at, Some(days as u32)),
-        Distance::None => text::last_field(out, at, None),
+        Some(days) => text::last_field(out, at, Some(days as u32)),
+        None => text::last_field(out, at, None),
     }
 }
 
@@ -24,7 +23,7 @@ pub(crate) fn put(
     bytes: &[u8],
     number: u32,
     day: RegisterDay,
-    distance: Distance,
+    distance: Option<u8>,
 ) -> usize
     requires { at + (length bytes.now + 34) ≤ length out.old }
     ensures { Wrote out.old at (distance_line bytes.now number day.0 distance) out.new result

@@ -7,8 +7,8 @@ returns-then-outside c = promised _ _ _ (search no_rule)
 pub returns-then-refusal-ne0 : goal.returns-then-refusal-ne0
 returns-then-refusal-ne0 c = promised _ _ _ (search returns_refusal)
 
-pub submerged-distance-requires : goal.submerged-distance-requires
-submerged-distance-requires c =
+pub submerged-requires : goal.submerged-requires
+submerged-requires c =
     qi_below _ _ _ c.outside.ensures c.qi-qi.ensures c.if-outside.false c.if-refusal-ne0.false
 
 pub returns : goal.returns
