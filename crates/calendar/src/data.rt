@@ -1,5 +1,5 @@
 // A register day: the Julian Day Number of a civil day counted from midnight. The customer's own term.
-#[derive(Clone, Copy)]
+#[derive(Clone, Copy, PartialEq, Eq)]
 pub struct RegisterDay(pub u32);
 
 // A sixty-day name, from 1 (jiazi) to 60 (guihai).

@@ -1,17 +1,20 @@
 -- The places listed of two years, one after another.
 use Prim.Native.Nat.{ℕ, zero, suc, ◌+◌, ◌-◌, ◌≤◌, ◌<◌}
 use mathlib.Core.Path.{◌≡◌, refl, sym, ap, ap₂, subst, ◌∙◌}
-use mathlib.Core.Bool.{Bool, true, false, cond}
+use mathlib.Core.Bool.{true, false, cond}
 use mathlib.Core.List.{List, [], ◌∷◌, ◌++◌, append-nil, append_assoc}
 use native.Mathlib.Numerals.{add-one}
 use native.Mathlib.Omega.{arith}
 use lib.ListN.{length, set, get_or, replicate, length-append, get_or-append}
 use lib.Seq.{set-append_seam, get_or-append_seam}
+use Rattle.std.proofs.Common.{Option, Some, None}
 use Rattle.calendar.proofs.Cases.{by_bool}
 use Rattle.calendar.proofs.Rising.{by_order}
 use Rattle.reckoning.specs.declared.data.Year.{Year}
+use Rattle.comparison.specs.declared.data.Difference.{Difference}
 use Rattle.comparison.specs.declared.data.Listed.{Listed}
-use Rattle.comparison.specs.Comparisons.{is_listed, listed_at, places_up_to, unused, thirteen, listing}
+use Rattle.comparison.specs.Comparisons.{is_listed, difference_at, listed_at, places_up_to, unused, thirteen, listing}
+use Rattle.comparison.specs.Months.{difference_told}
 
 -- One place more in the first unused one.
 pub thirteen_more : (places : List Listed) (place : Listed) → length places < 13
@@ -139,37 +142,45 @@ module _ (first second : Year) where
   listed_none_yet e = record { count_is = refl; places_are = ap (replicate 13) e }
 
   module _ {n count : ℕ} {places : List Listed} (so_far : ListedOf first second n count places) where
-    pub listed_one_more : {listed : Bool} {place : Listed} → listed ≡ is_listed first second n → listed ≡ true
-        → place ≡ listed_at first second n
-        → n < 13
-        → ListedOf first second (n + 1) (count + 1) (set places count place)
-    listed_one_more {place = place} test is p h =
-        let e : is_listed first second n ≡ true = sym test ∙ is in
-        let few = before_most first second n in
-        rw (add-one n)
-        (record {
-          count_is = omega (arith, so_far.count_is, before_next first second n e);
-          places_are =
-              ap (λ c. set places c place) so_far.count_is
-              ∙ ap₂ (λ l x. set l (before first second n) x) so_far.places_are p
-              ∙ thirteen_more (places_up_to first second n) (listed_at first second n) (omega arith)
-              ∙ ap thirteen (sym (one_more first second n e));
-        })
+    module _ {told : Option Difference} (is_told : told ≡ difference_told first second n) where
+      pub listed_one_more : {difference : Difference} {place : Listed} → told ≡ Some difference
+          → place ≡ record { place = n + 1; difference = difference }
+          → n < 13
+          → ListedOf first second (n + 1) (count + 1) (set places count place)
+      listed_one_more {difference = d} {place = place} some place_is h =
+          by_bool (is_listed first second n)
+          (λ e.
+          let here : difference_told first second n ≡ Some (difference_at first second n) = simp e in
+          let is : d ≡ difference_at first second n = cc (is_told, some, here) in
+          let entry : place ≡ listed_at first second n = place_is ∙ ap (λ x. record { place = n + 1; difference = x }) is in
+          let few = before_most first second n in
+          rw (add-one n)
+          (record {
+            count_is = omega (arith, so_far.count_is, before_next first second n e);
+            places_are =
+                ap (λ c. set places c place) so_far.count_is
+                ∙ ap₂ (λ l x. set l (before first second n) x) so_far.places_are entry
+                ∙ thirteen_more (places_up_to first second n) (listed_at first second n) (omega arith)
+                ∙ ap thirteen (sym (one_more first second n e));
+          }))
+          (λ e. let here : difference_told first second n ≡ None = simp e in absurd (cc (is_told, some, here)))
 
-    pub listed_no_more : {listed : Bool} → listed ≡ is_listed first second n → listed ≡ false
-        → ListedOf first second (n + 1) count places
-    listed_no_more test is =
-        let e : is_listed first second n ≡ false = sym test ∙ is in
-        rw (add-one n)
-        (record {
-          count_is = so_far.count_is ∙ ap length (sym (no_more first second n e));
-          places_are = so_far.places_are ∙ ap thirteen (sym (no_more first second n e));
-        })
+      pub listed_no_more : told ≡ None → ListedOf first second (n + 1) count places
+      listed_no_more none =
+          by_bool (is_listed first second n)
+          (λ e.
+          let here : difference_told first second n ≡ Some (difference_at first second n) = simp e in
+          absurd (cc (is_told, none, here)))
+          (λ e.
+          rw (add-one n)
+          (record {
+            count_is = so_far.count_is ∙ ap length (sym (no_more first second n e));
+            places_are = so_far.places_are ∙ ap thirteen (sym (no_more first second n e));
+          }))
 
-    pub listed_all : n ≤ 13 → 13 ≤ n → record { refusal = 0; count = count; places = places } ≡ listing first second
+    pub listed_all : n ≡ 13 → record { refusal = 0; count = count; places = places } ≡ listing first second
     unfolding listing
-    listed_all l h =
-        let all : n ≡ 13 = omega arith in
+    listed_all all =
         ap₂ (λ c p. record { refusal = 0; count = c; places = p })
         (so_far.count_is ∙ ap (before first second) all)
         (so_far.places_are ∙ ap (λ m. thirteen (places_up_to first second m)) all)

@@ -26,5 +26,5 @@ pub fn compare(first: u32, second: u32, year: u32) -> Comparison
     if refusal != 0 {
         return places::none(refusal);
     }
-    places::list(of_first, of_second)
+    places::list(&of_first, &of_second)
 }

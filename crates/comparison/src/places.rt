@@ -1,44 +1,36 @@
 // The places where two years differ.
 ghost use Rattle.std.specs.Prelude.{◌≡◌, ◌<◌, pos, ◌-ℤ◌};
-ghost use Rattle.comparison.specs.Comparisons.{same_month, is_listed, difference_at, listed_at, unused, listing, no_comparison};
+ghost use Rattle.comparison.specs.Comparisons.{unused, listing, no_comparison};
+ghost use Rattle.comparison.specs.Months.{month_at, difference_told};
 
 use crate::data::{Comparison, Difference, Listed};
 use calendar::data::RegisterDay;
 use reckoning::data::Year;
 
-// Two months are the same in number, leap mark and head. Here i is an index, from 0: that of place i + 1.
-fn same_month(first: Year, second: Year, i: usize) -> bool
-    requires { i < 13 }
-    ensures { result ≡ same_month first second i }
-{
-    let number = first.numbers[i];
-    let leap = first.leaps[i];
-    let head = first.heads[i];
-    let other = second.heads[i];
-    if number != second.numbers[i] {
-        return false;
-    }
-    if leap != second.leaps[i] {
-        return false;
-    }
-    head.0 == other.0
+// What two months of one place are compared by.
+#[derive(Clone, Copy, PartialEq, Eq)]
+struct Month {
+    number: u8,
+    leap: u8,
+    head: RegisterDay,
 }
 
-// Place i + 1 is listed.
-fn is_listed(first: Year, second: Year, i: usize) -> bool
+// The month that a year has at index i, from 0: that of place i + 1.
+fn month_at(year: &Year, i: usize) -> Option<Month>
     requires { i < 13 }
-    ensures { result ≡ is_listed first second i }
+    ensures { result ≡ month_at year.now i }
 {
-    if first.count as usize <= i {
-        return i < second.count as usize;
+    if year.count as usize <= i {
+        return None;
     }
-    if second.count as usize <= i {
-        return true;
-    }
-    !same_month(first, second, i)
+    Some(Month {
+        number: year.numbers[i],
+        leap: year.leaps[i],
+        head: year.heads[i],
+    })
 }
 
-// Both have a month: the second head less the first.
+// The second head less the first.
 fn days_between(first: RegisterDay, second: RegisterDay) -> Difference
     ensures { result ≡ Difference.Days (pos second.0 -ℤ pos first.0) }
 {
@@ -46,30 +38,17 @@ fn days_between(first: RegisterDay, second: RegisterDay) -> Difference
     Difference::Days(days)
 }
 
-// How the two differ there.
-fn difference_at(first: Year, second: Year, i: usize) -> Difference
+// How the two differ there, if they do.
+fn difference_at(first: &Year, second: &Year, i: usize) -> Option<Difference>
     requires { i < 13 }
-    ensures { result ≡ difference_at first second i }
+    ensures { result ≡ difference_told first.now second.now i }
 {
-    if first.count as usize <= i {
-        return Difference::FirstLacks;
-    }
-    if second.count as usize <= i {
-        return Difference::SecondLacks;
-    }
-    let head = first.heads[i];
-    let other = second.heads[i];
-    days_between(head, other)
-}
-
-// The entry of a place that is listed.
-fn listed_at(first: Year, second: Year, i: usize) -> Listed
-    requires { i < 13 }
-    ensures { result ≡ listed_at first second i }
-{
-    Listed {
-        place: i as u8 + 1,
-        difference: difference_at(first, second, i),
+    match (month_at(first, i), month_at(second, i)) {
+        (Some(month), Some(other)) if month == other => None,
+        (Some(month), Some(other)) => Some(days_between(month.head, other.head)),
+        (Some(_), None) => Some(Difference::SecondLacks),
+        (None, Some(_)) => Some(Difference::FirstLacks),
+        (None, None) => None,
     }
 }
 
@@ -84,17 +63,17 @@ fn unused() -> Listed
 }
 
 // The places where two years differ.
-pub(crate) fn list(first: Year, second: Year) -> Comparison
-    ensures { result ≡ listing first second }
+pub(crate) fn list(first: &Year, second: &Year) -> Comparison
+    ensures { result ≡ listing first.now second.now }
 {
     let mut places = [unused(); 13];
     let mut count = 0;
-    let mut next = 0;
-    while next < 13 {
-        let i = next;
-        next += 1;
-        if is_listed(first, second, i) {
-            places[count] = listed_at(first, second, i);
+    for i in 0..13 {
+        if let Some(difference) = difference_at(first, second, i) {
+            places[count] = Listed {
+                place: i as u8 + 1,
+                difference: difference,
+            };
             count += 1;
         }
     }

@@ -21,7 +21,7 @@ pub struct Extinguished {
 }
 
 // The extinguished days of a year: those of its `count` new moons in order, then day 0 and no distance. Refused, it
-// carries the refusal number and has none.
+// carries the refusal number and has none. All thirteen places are there, since `unlisted` speaks of them.
 #[derive(Clone, Copy)]
 pub struct ExtinguishedDays {
     pub refusal: u8,

@@ -1,20 +1,29 @@
+use Prim.Native.Nat.{◌+◌}
+use mathlib.Core.Path.{refl, subst₂, sym}
 use native.Mathlib.Omega.{arith}
-use Rattle.comparison.proofs.Listing.{listed_none_yet, listed_one_more, listed_no_more, listed_all}
+use Rattle.comparison.proofs.Listing.{ListedOf, listed_none_yet, listed_one_more, listed_no_more, listed_all}
 use Rattle.comparison.proofs.places.list.Goals as goal
+use Rattle.comparison.proofs.places.list.Goals.{in-Some, in_default}
 
-pub loop-next-init : goal.loop-next-init
-loop-next-init c = (omega arith, omega arith, listed_none_yet _ _ c.unused-places.ensures)
+pub loop-i-init : goal.loop-i-init
+loop-i-init c = (omega arith, listed_none_yet _ _ c.unused-places.ensures)
 
-pub loop-next-preserved-then-is_listed : goal.loop-next-preserved-then-is_listed
-loop-next-preserved-then-is_listed c =
-    let so_far = c.loop-next.invariant in
-    let listed = listed_one_more _ _ so_far.2 c.is_listed.ensures c.if-is_listed.true c.listed_at.ensures in
-    (omega arith, omega arith, listed (omega arith))
-
-pub loop-next-preserved : goal.loop-next-preserved
-loop-next-preserved c = (omega arith, omega arith, search listed_no_more)
+pub loop-i-preserved : goal.loop-i-preserved
+loop-i-preserved c =
+    let so_far = c.loop-i.invariant in
+    let step = c.match-difference_at in
+    elim step.branch [
+      | in-Some w ↦ (
+        omega arith,
+        subst₂ (ListedOf c.args.first.now c.args.second.now (c.loop-i.i + 1)) (sym w.count-is) (sym w.places-is)
+            (listed_one_more _ _ so_far.1 c.difference_at.ensures w.in-Some.is refl (omega arith)),
+      )
+      | in_default w ↦ (
+        omega arith,
+        subst₂ (ListedOf c.args.first.now c.args.second.now (c.loop-i.i + 1)) (sym w.count-is) (sym w.places-is)
+            (listed_no_more _ _ so_far.1 c.difference_at.ensures w.in_default.is),
+      )
+    ]
 
 pub returns : goal.returns
-returns c =
-    let so_far = c.loop-next.invariant in
-    listed_all _ _ so_far.2 so_far.1 (omega arith)
+returns c = listed_all _ _ c.loop-i.invariant.1 (omega arith)
