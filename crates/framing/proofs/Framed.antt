@@ -8,6 +8,8 @@ use lib.Dec.{leb}
 use lib.ListN.{length, get_or, take, drop, length-append, length-drop, get_or-append}
 use lib.Seq.{get_or-drop, take-append-le, drop-append-le}
 use borrow.Author.Tests.{le-leb, lt-leb, leb-true, not-true}
+use Rattle.std.specs.Prelude.{Option, Some, None}
+use Rattle.std.proofs.lemmas.Option.{none-some, cond_some}
 use Rattle.calendar.proofs.Cases.{by_bool, both}
 use Rattle.reckoning.specs.ComputedRefusals.{outside}
 use Rattle.reckoning.proofs.RefusalCases.{inside_of}
@@ -23,15 +25,15 @@ field_at s at e =
 
 -- What `next` finds.
 module _ (s : List ℕ) (at : ℕ) where
-  pub no_field : length s < at + 2 → 0 ≡ next_of s at
+  pub no_field : length s < at + 2 → None ≡ next_of s at
   unfolding next_of
   no_field l = simp (lt-leb 2 (length (drop at s)) (omega (arith, length-drop at s)))
 
-  pub bad_field : at + 2 ≤ length s → outside 4 64 (length_field (drop at s)) ≡ true → 0 ≡ next_of s at
+  pub bad_field : at + 2 ≤ length s → outside 4 64 (length_field (drop at s)) ≡ true → None ≡ next_of s at
   unfolding next_of
   bad_field l e = simp (le-leb 2 (length (drop at s)) (omega (arith, length-drop at s)), e)
 
-  pub too_few : at + 2 ≤ length s → outside 4 64 (length_field (drop at s)) ≡ false → length s - at < length_field (drop at s) → 0 ≡ next_of s at
+  pub too_few : at + 2 ≤ length s → outside 4 64 (length_field (drop at s)) ≡ false → length s - at < length_field (drop at s) → None ≡ next_of s at
   unfolding next_of
   too_few l e f =
       simp (
@@ -41,7 +43,7 @@ module _ (s : List ℕ) (at : ℕ) where
       )
 
   pub whole : at + 2 ≤ length s → outside 4 64 (length_field (drop at s)) ≡ false → length_field (drop at s) ≤ length s - at
-      → length_field (drop at s) ≡ next_of s at
+      → Some (length_field (drop at s)) ≡ next_of s at
   unfolding next_of
   whole l e f =
       simp (
@@ -80,37 +82,30 @@ pub record Next (s : List ℕ) (at n : ℕ) : Type 0 where
   pub all_there : n ≤ length (drop at s)
   pub within : at + n ≤ length s
 
-pub next_is : (s : List ℕ) (at n : ℕ) → n ≡ next_of s at → (n ≡ 0 → ⊥) → Next s at n
+pub next_is : (s : List ℕ) (at n : ℕ) → Some n ≡ next_of s at → Next s at n
 unfolding next_of
-next_is s at n e some =
-    by_bool (framed (drop at s))
-    (λ q.
-    let f = framed_is (drop at s) q in
-    let is_length : n ≡ length_field (drop at s) = e ∙ simp q in
+next_is s at n e =
+    let found = cond_some (framed (drop at s)) (length_field (drop at s)) n (sym e) in
+    let f = framed_is (drop at s) found.0 in
     record {
-      is_framed = q;
-      is_length = is_length;
-      at_least = omega (arith, f.at_least);
-      all_there = omega (arith, f.all_there);
-      within = omega (arith, f.at_least, f.all_there, length-drop at s);
-    })
-    (λ q. absurd (some (e ∙ simp q)))
+      is_framed = found.0;
+      is_length = sym found.1;
+      at_least = omega (arith, found.1, f.at_least);
+      all_there = omega (arith, found.1, f.all_there);
+      within = omega (arith, found.1, f.at_least, f.all_there, length-drop at s);
+    }
 
-pub next_within : {n : ℕ} (s : List ℕ) (at : ℕ) → n ≡ next_of s at → (n ≡ 0 → ⊥) → at + n ≤ length s
-next_within s at e some = (next_is s at _ e some).within
+pub next_within : {n : ℕ} {found : Option ℕ} (s : List ℕ) (at : ℕ) → found ≡ Some n → found ≡ next_of s at → at + n ≤ length s
+next_within s at some next = (next_is s at _ (sym some ∙ next)).within
 
-pub less_ahead : {n : ℕ} (s : List ℕ) (at : ℕ) → n ≡ next_of s at → (n ≡ 0 → ⊥) → length s - (at + n) < length s - at
-less_ahead s at e some = let here = next_is s at _ e some in omega (arith, here.at_least, here.within)
+pub less_ahead : {n : ℕ} {found : Option ℕ} (s : List ℕ) (at : ℕ) → found ≡ Some n → found ≡ next_of s at
+    → length s - (at + n) < length s - at
+less_ahead s at some next = let here = next_is s at _ (sym some ∙ next) in omega (arith, here.at_least, here.within)
 
--- Where it gives 0, none is there.
-pub next_none : (s : List ℕ) (at : ℕ) → next_of s at ≡ 0 → framed (drop at s) ≡ false
+-- Where it gives none, none is there.
+pub next_none : (s : List ℕ) (at : ℕ) → next_of s at ≡ None → framed (drop at s) ≡ false
 unfolding next_of
-next_none s at e =
-    by_bool (framed (drop at s))
-    (λ q.
-    let found : next_of s at ≡ length_field (drop at s) = simp q in
-    absurd (omega (arith, found, (framed_is (drop at s) q).at_least)))
-    (λ q. q)
+next_none s at e = by_bool (framed (drop at s)) (λ q. absurd (none-some (length_field (drop at s)) (sym e ∙ simp q))) (λ q. q)
 
 -- A length field stays as it is, whatever follows.
 pub same_field : (f t : List ℕ) → 2 ≤ length f → length_field (f ++ t) ≡ length_field f

@@ -7,8 +7,6 @@ pub mod Cutting
 pub mod Rest
 -- Records written anew.
 pub mod Again
--- Bytes moved to the front of their buffer.
-pub mod Moving
 -- A step that reads.
 pub mod Stepping
 -- However the input comes in pieces.

@@ -1,5 +1,5 @@
 -- An input cut into records: paper 01, "The program".
-use Rattle.std.specs.Prelude.{ℕ, zero, suc, Bool, cond, not, ◌&&◌, List, [], ◌∷◌, leb, length, take, drop}
+use Rattle.std.specs.Prelude.{ℕ, zero, suc, Bool, cond, not, ◌&&◌, List, [], ◌∷◌, leb, length, take, drop, Option, Some, None}
 use Rattle.reckoning.specs.ComputedRefusals.{outside}
 use Rattle.citation.specs.Record.{length_field}
 
@@ -37,6 +37,6 @@ framing s = framing_within (length s) s
 abbrev pub rest_of : List ℕ → List ℕ
 rest_of s = (framing s).rest
 
--- The length of the record at a place, where a whole one is there; else 0.
-unfoldable pub next_of : List ℕ → ℕ → ℕ
-next_of s at = cond (framed (drop at s)) (length_field (drop at s)) 0
+-- The length of the record at a place, where a whole one is there.
+unfoldable pub next_of : List ℕ → ℕ → Option ℕ
+next_of s at = cond (framed (drop at s)) (Some (length_field (drop at s))) None

@@ -21,53 +21,35 @@ fn length_at(s: &[u8], at: usize) -> u32
 fn is_misframed(s: &[u8]) -> bool
     ensures { result ≡ misframed s.now }
 {
-    if s.len() < 2 {
-        return false;
-    }
-    outside(4, 64, length_at(s, 0))
+    2 <= s.len() && outside(4, 64, length_at(s, 0))
 }
 
-// The length of the record at a place, where a whole one is there; else 0.
-pub fn next(s: &[u8], at: usize) -> usize
+// The length of the record at a place, where a whole one is there.
+pub fn next(s: &[u8], at: usize) -> Option<usize>
     ensures { result ≡ next_of s.now at }
 {
-    if s.len() < 2 {
-        return 0;
-    }
-    if s.len() - 2 < at {
-        return 0;
+    if s.len() < 2 || s.len() - 2 < at {
+        return None;
     }
     let n = length_at(s, at);
-    if outside(4, 64, n) {
-        return 0;
+    if outside(4, 64, n) || s.len() - at < n as usize {
+        return None;
     }
-    if s.len() - at < n as usize {
-        return 0;
-    }
-    n as usize
+    Some(n as usize)
 }
 
 // Whether a run goes on after these bytes, which are no whole record.
 pub fn goes_on(ended: bool, rest: &[u8]) -> bool
     ensures { result ≡ not (ended || misframed rest.now) }
 {
-    if ended {
-        return false;
-    }
-    !is_misframed(rest)
+    !(ended || is_misframed(rest))
 }
 
 // Moves the bytes from a place on to the front.
 pub fn keep(buffer: &mut [u8], from: usize)
     ensures { buffer.new ≡ at_front (drop from buffer.old) buffer.old }
 {
-    if buffer.len() < from {
-        return;
-    }
-    let left = buffer.len() - from;
-    let mut i = 0;
-    while i < left {
-        buffer[i] = buffer[from + i];
-        i += 1;
+    if from < buffer.len() {
+        buffer.copy_within(from.., 0);
     }
 }

@@ -1,7 +1,7 @@
 -- The line of a record by its judgement, and its length.
 use Prim.Native.Nat.{ℕ, ◌≤◌}
 use mathlib.Core.Path.{◌≡◌, subst}
-use mathlib.Core.Bool.{cond}
+use mathlib.Core.Bool.{true, false, cond}
 use mathlib.Core.List.{List, [], ◌∷◌, ◌++◌}
 use native.Mathlib.Omega.{arith}
 use lib.Dec.{eqb}
@@ -24,14 +24,15 @@ use Rattle.lines.specs.Line.{words, stored_line, refusal_line, line_of}
 use Rattle.lines.specs.Program.{ending_of}
 
 -- The words of a stored record and its day make its line.
-pub told_stored : {b a : List ℕ} {at e year : ℕ} {name : DayName} (stored : List ℕ) (r : ℕ)
+pub put_stored : {b a : List ℕ} {at e year : ℕ} {name : DayName} (stored : List ℕ) (r : ℕ)
     → year ≡ year_field stored
     → name ≡ record { 0 = name_of r }
-    → Wrote b at (words (system_of stored) year (month_field stored) (leap_field stored) (day_field stored) r name.0) a e
-    → Wrote b at (stored_line stored r) a e
+    → Puts b at 64 (words (system_of stored) year (month_field stored) (leap_field stored) (day_field stored) r name.0) a e
+    → Puts b at 64 (stored_line stored r) a e
 unfolding stored_line
-told_stored stored r year_is name-is w =
-    wrote_as (λ i. words (system_of stored) (year_is i) (month_field stored) (leap_field stored) (day_field stored) r (name-is i).0) w
+put_stored {b} {a} {at} {e} stored r year_is name-is =
+    subst (λ t. Puts b at 64 t a e)
+    (λ i. words (system_of stored) (year_is i) (month_field stored) (leap_field stored) (day_field stored) r (name-is i).0)
 
 -- The line of a record by its judgement.
 module _ (s : List ℕ) (j : Judgement) (e : j ≡ judge_of s) where
@@ -98,9 +99,9 @@ line_short s =
 
 -- The line for bytes that are no record, by whether there are any.
 module _ (rest : List ℕ) where
-  pub put_no_ending : (b : List ℕ) (at : ℕ) → length rest ≡ 0 → Put b at 19 (ending_of rest) b at
-  put_no_ending b at none = simp (eq-eqb (length rest) 0 none) (put_nothing b at 19)
+  pub put_no_ending : (b : List ℕ) (at : ℕ) → eqb (length rest) 0 ≡ true → Put b at 19 (ending_of rest) b at
+  put_no_ending b at none = simp none (put_nothing b at 19)
 
-  pub put_ending : {b a : List ℕ} {at end : ℕ} → (length rest ≡ 0 → ⊥) → Put b at 19 (refused_line SHORT) a end
+  pub put_ending : {b a : List ℕ} {at end : ℕ} → eqb (length rest) 0 ≡ false → Put b at 19 (refused_line SHORT) a end
       → Put b at 19 (ending_of rest) a end
-  put_ending some p = simp (ne_eqb (length rest) 0 some) p
+  put_ending some p = simp some p

@@ -6,6 +6,8 @@ use native.Mathlib.Omega.{arith}
 use lib.ListN.{length, take, drop, take-append-drop}
 use lib.Seq.{drop-drop, length-take-le}
 use borrow.Author.Tests.{le-leb, lt-leb}
+use Rattle.std.specs.Prelude.{Option, Some, None}
+use Rattle.std.proofs.lemmas.Option.{none-some}
 use Rattle.calendar.proofs.Rising.{by_order}
 use Rattle.text.specs.Wrote.{Wrote}
 use Rattle.text.proofs.Writing.{wrote_front, wrote_back}
@@ -17,11 +19,11 @@ use Rattle.lines.specs.Program.{no_portion, portion_then, portion_of, next_with_
 use Rattle.lines.proofs.Cutting.{portion_full, portion_none, portion_more}
 
 -- Where a record is next, 64 bytes of output are.
-room_is : (s : List ℕ) (at size n : ℕ) → n ≡ next_with_room s at size → (n ≡ 0 → ⊥) → (64 ≤ size) × Next s at n
-room_is s at size n e some =
+room_is : (s : List ℕ) (at size n : ℕ) → Some n ≡ next_with_room s at size → (64 ≤ size) × Next s at n
+room_is s at size n e =
     by_order size 64
-    (λ full. absurd (some (e ∙ simp (lt-leb 64 size full))))
-    (λ room. (room, next_is s at n (e ∙ simp (le-leb 64 size room)) some))
+    (λ full. absurd (none-some n (sym (e ∙ simp (lt-leb 64 size full)))))
+    (λ room. (room, next_is s at n (e ∙ simp (le-leb 64 size room))))
 
 -- The lines so far, and then what the rest of the output takes, are what the whole takes.
 abbrev pub SoFar : List ℕ → ℕ → ℕ → List ℕ → ℕ → Type 0
@@ -72,14 +74,14 @@ module _ (s out out' : List ℕ) (read written written' size n : ℕ) (room : 64
       ∙ ap (λ k. drop k before) on
 
 -- Where no record is next, nothing more is taken.
-nothing_next : (s : List ℕ) (at size : ℕ) → next_with_room s at size ≡ 0 → portion_of (drop at s) size ≡ no_portion
+nothing_next : (s : List ℕ) (at size : ℕ) → next_with_room s at size ≡ None → portion_of (drop at s) size ≡ no_portion
 nothing_next s at size e =
     by_order size 64
     (portion_full (framing (drop at s)).records size)
     (λ room. portion_none (drop at s) size (next_none s at (sym (simp (le-leb 64 size room)) ∙ e)))
 
 module _ (s out before : List ℕ) (read written : ℕ) (so_far : SoFar s (length before) read out written)
-    (no_more : next_with_room s read (length before - written) ≡ 0) where
+    (no_more : next_with_room s read (length before - written) ≡ None) where
   all_taken : portion_of s (length before) ≡ record { read = read; text = take written out }
   all_taken =
       let none : read + 0 ≡ read = omega arith in
@@ -99,30 +101,29 @@ module _ (s out before : List ℕ) (read written : ℕ) (so_far : SoFar s (lengt
       ∙ ap (λ t. take written out ++ t) (sym rest)
       ∙ take-append-drop written out)
 
--- So far lines were put: so much was read and written, and the record of n bytes is next.
-pub record PuttingLines (input before out : List ℕ) (read written n : ℕ) : Type 0 where
+-- So far lines were put: so much was read and written.
+pub record PuttingLines (input before out : List ℕ) (read written : ℕ) : Type 0 where
   pub read_within : read ≤ length input
   pub written_within : written ≤ length out
   pub same_length : length out ≡ length before
-  pub next : n ≡ next_with_room input read (length before - written)
   pub so_far : SoFar input (length before) read out written
   pub rest_same : drop written out ≡ drop written before
 
-pub putting_starts : {n : ℕ} (input out : List ℕ) → n ≡ next_with_room input 0 (length out) → PuttingLines input out out 0 0 n
-putting_starts input out next =
-    let all : length out ≡ length out - 0 = omega arith in
+pub putting_starts : (input out : List ℕ) → PuttingLines input out out 0 0
+putting_starts input out =
     record {
       read_within = omega arith;
       written_within = omega arith;
       same_length = refl;
-      next = next ∙ ap (next_with_room input 0) all;
       so_far = so_far_starts input (length out) out;
       rest_same = refl;
     }
 
-module _ {input before out : List ℕ} {read written n : ℕ} (κ : PuttingLines input before out read written n) (some : n ≡ 0 → ⊥) where
+-- What is next is told by the output as it is.
+module _ {input before out : List ℕ} {read written n : ℕ} {found : Option ℕ} (κ : PuttingLines input before out read written)
+    (some : found ≡ Some n) (next : found ≡ next_with_room input read (length out - written)) where
   here : (64 ≤ length before - written) × Next input read n
-  here = room_is _ _ _ _ κ.next some
+  here = room_is _ _ _ _ (sym some ∙ next ∙ ap (λ k. next_with_room input read (k - written)) κ.same_length)
 
   -- The next record lies within the buffer, and its line has room.
   pub record_within : read + n ≤ length input
@@ -134,26 +135,25 @@ module _ {input before out : List ℕ} {read written n : ℕ} (κ : PuttingLines
   pub less_left : length input - (read + n) < length input - read
   less_left = omega (arith, here.1.at_least, record_within)
 
-  pub putting_more : {out' : List ℕ} {written' n' : ℕ}
+  pub putting_more : {out' : List ℕ} {written' : ℕ}
       → Wrote out written (line_of (take (read + n - read) (drop read input))) out' written'
-      → n' ≡ next_with_room input (read + n) (length out' - written')
-      → PuttingLines input before out' (read + n) written' n'
-  putting_more {out'} {written'} {n'} w next =
-      let long = w.same_length ∙ κ.same_length in
+      → PuttingLines input before out' (read + n) written'
+  putting_more {out'} {written'} w =
       record {
         read_within = record_within;
         written_within = omega (arith, w.fits, w.same_length);
-        same_length = long;
-        next = next ∙ ap (λ k. next_with_room input (read + n) (k - written')) long;
+        same_length = w.same_length ∙ κ.same_length;
         so_far = one_more _ _ _ _ _ _ _ _ here.0 here.1 w κ.so_far;
         rest_same = rest_kept _ _ _ _ _ _ _ _ here.0 here.1 w _ κ.rest_same;
       }
 
 -- Where no record is next, all lines are put.
-pub lines_put : {input before out : List ℕ} {read written n : ℕ} → PuttingLines input before out read written n → n ≡ 0
+pub lines_put : {input before out : List ℕ} {read written : ℕ} {found : Option ℕ} → PuttingLines input before out read written
+    → found ≡ None
+    → found ≡ next_with_room input read (length out - written)
     → LinesPut input before out (record { read = read; written = written })
-lines_put {input} {before} {out} {read} {written} κ none =
-    let no_more = sym κ.next ∙ none in
+lines_put {input} {before} {out} {read} {written} κ none next =
+    let no_more = sym (sym none ∙ next ∙ ap (λ k. next_with_room input read (k - written)) κ.same_length) in
     record {
       progress = progress_is input out before read written κ.so_far no_more κ.written_within;
       output = output_is input out before read written κ.so_far no_more κ.written_within κ.rest_same;

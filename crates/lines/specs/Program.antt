@@ -1,5 +1,5 @@
 -- What the program writes, from the input's bytes to the output's bytes: paper 01, "The program".
-use Rattle.std.specs.Prelude.{ℕ, ◌+◌, ◌-◌, ◌≤◌, ◌≡◌, cond, List, [], ◌∷◌, ◌++◌, leb, eqb, length}
+use Rattle.std.specs.Prelude.{ℕ, ◌+◌, ◌-◌, ◌≤◌, ◌≡◌, cond, List, [], ◌∷◌, ◌++◌, leb, eqb, length, Option, None}
 use Rattle.reckoning.specs.RefusalNumbers.{SHORT}
 use Rattle.framing.specs.Framing.{framing, next_of}
 use Rattle.framing.specs.Buffer.{at_front}
@@ -45,9 +45,9 @@ portion (r ∷ records) size =
 abbrev pub portion_of : List ℕ → ℕ → Portion
 portion_of s size = portion (framing s).records size
 
--- The length of the record at a place, where a whole one is there and 64 bytes of output are; else 0.
-abbrev pub next_with_room : List ℕ → ℕ → ℕ → ℕ
-next_with_room s at size = cond (leb 64 size) (next_of s at) 0
+-- The length of the record at a place, where a whole one is there and 64 bytes of output are.
+abbrev pub next_with_room : List ℕ → ℕ → ℕ → Option ℕ
+next_with_room s at size = cond (leb 64 size) (next_of s at) None
 
 -- The lines of a buffer's records put: how far it was read and how much was written,
 abbrev pub progress_of : Portion → Progress

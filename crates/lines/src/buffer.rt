@@ -14,12 +14,12 @@ pub struct Progress {
     pub written: usize,
 }
 
-// The length of the record at a place, where a whole one is there and 64 bytes of output are; else 0.
-fn next_with_room(s: &[u8], at: usize, size: usize) -> usize
+// The length of the record at a place, where a whole one is there and 64 bytes of output are.
+fn next_with_room(s: &[u8], at: usize, size: usize) -> Option<usize>
     ensures { result ≡ next_with_room s.now at size }
 {
     if size < 64 {
-        return 0;
+        return None;
     }
     next(s, at)
 }
@@ -30,12 +30,10 @@ pub fn put_lines(input: &[u8], out: &mut [u8]) -> Progress
 {
     let mut read = 0;
     let mut written = 0;
-    let mut n = next_with_room(input, read, out.len());
-    while n != 0 {
+    while let Some(n) = next_with_room(input, read, out.len() - written) {
         let end = read + n;
         written = put_line(&input[read..end], out, written);
         read = end;
-        n = next_with_room(input, read, out.len() - written);
     }
     Progress {
         read: read,
@@ -47,7 +45,7 @@ pub fn put_lines(input: &[u8], out: &mut [u8]) -> Progress
 pub fn ending(out: &mut [u8], at: usize, rest: &[u8]) -> usize
     ensures { Put out.old at 19 (ending_of rest.now) out.new result }
 {
-    if rest.len() == 0 {
+    if rest.is_empty() {
         return at;
     }
     text::refused(out, at, SHORT)

@@ -1,53 +1,23 @@
 // The line of a record.
 ghost use Rattle.std.specs.Prelude.{◌≡◌, ◌+◌, ◌≤◌, length};
 ghost use Rattle.text.specs.Wrote.{Wrote};
-ghost use Rattle.lines.specs.Line.{words, stored_line, refusal_line, line_of};
+ghost use Rattle.lines.specs.Line.{stored_line, refusal_line, line_of};
 
 use calendar::data::RegisterDay;
 use citation::judge::judge;
 use little_endian::le16;
 use reckoning::refusal_numbers::LEAP;
 
-// A line's words, by the numbers that they tell.
-fn put_words(
-    out: &mut [u8],
-    start: usize,
-    system: u32,
-    year: u32,
-    month: u32,
-    leap: u8,
-    day: u32,
-    register: u32,
-    name: u32,
-) -> usize
-    requires { start + 64 ≤ length out.old }
-    ensures { Wrote out.old start (words system year month leap day register name) out.new result
-        × (result ≤ start + 64) }
-{
-    let last = [day, register, name];
-    let at = text::year(out, start, system, year);
-    let at = text::month(out, at, month, leap);
-    text::line(out, at, b"", &last)
-}
-
 // The line of a day and its stored record.
 fn put_day(out: &mut [u8], start: usize, stored: [u8; 10], day: RegisterDay) -> usize
     requires { start + 64 ≤ length out.old }
     ensures { Wrote out.old start (stored_line stored day.0) out.new result × (result ≤ start + 64) }
 {
-    let year = le16(stored[5], stored[6]);
     let name = reckoning::day_name(day).0 as u32;
-    put_words(
-        out,
-        start,
-        stored[4] as u32,
-        year,
-        stored[7] as u32,
-        stored[8],
-        stored[9] as u32,
-        day.0,
-        name,
-    )
+    let last = [stored[9] as u32, day.0, name];
+    let at = text::year(out, start, stored[4] as u32, le16(stored[5], stored[6]));
+    let at = text::month(out, at, stored[7] as u32, stored[8]);
+    text::line(out, at, b"", &last)
 }
 
 // The line of a refusal.

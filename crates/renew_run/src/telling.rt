@@ -23,12 +23,10 @@ fn tell(streams: &mut Streams, refusal: u8, place: u64) {
 // are the ones that are still of kind 2.
 pub(crate) fn tell_refused(streams: &mut Streams, renewed: &[u8], offset: u64) {
     let mut at = 0;
-    let mut n = next(renewed, at);
-    while n != 0 {
+    while let Some(n) = next(renewed, at) {
         let end = at + n;
         let place = std::num::wrapping_add_u64(offset, at as u64);
         tell(streams, conversion::left_with(&renewed[at..end]), place);
         at = end;
-        n = next(renewed, at);
     }
 }

@@ -1,12 +1,14 @@
 -- The loop over a buffer.
 use Prim.Native.Nat.{ℕ, ◌+◌, ◌-◌, ◌≤◌, ◌<◌}
 use mathlib.Core.Path.{◌≡◌, refl, ap, ap₂, sym, ◌∙◌}
-use mathlib.Core.Bool.{Bool, true, false, not, ◌||◌}
+use mathlib.Core.Bool.{Bool, false, not, ◌||◌}
 use mathlib.Core.List.{List, ◌++◌, append_assoc}
 use native.Mathlib.Omega.{arith}
 use lib.Dec.{eqb}
 use lib.ListN.{length, take, drop, length-append, length-drop, take-append-drop}
 use lib.Seq.{drop_at, take_at, length-take-le}
+use Rattle.std.specs.Prelude.{Option, Some, None}
+use Rattle.std.proofs.Math.Bool.{or-false, or_assoc}
 use Rattle.citation.specs.Record.{length_field}
 use Rattle.conversion.specs.Conversion.{renewed, left_with}
 use Rattle.conversion.proofs.Ends.{renewed_length}
@@ -16,35 +18,22 @@ use Rattle.framing.proofs.Cutting.{framing_none, framing_more}
 use Rattle.framing.proofs.WholeRun.{whole_none, whole_more}
 use Rattle.renewal.specs.Renewal.{renewer, renewed_of, any_refused, renewal_of}
 
--- Whether a record was refused, by whether each was.
-pub or_nothing : (a : Bool) → a || false ≡ a
-or_nothing true = refl
-or_nothing false = refl
-
-pub or_true : (a : Bool) → a || true ≡ true
-or_true true = refl
-or_true false = refl
-
-or_assoc : (a b c : Bool) → a || (b || c) ≡ (a || b) || c
-or_assoc true b c = refl
-or_assoc false b c = refl
-
--- So far a buffer was renewed: up to a place, where the record of n bytes is next. The rest is still to be renewed.
-pub record Renewing (s b : List ℕ) (at : ℕ) (refused : Bool) (n : ℕ) : Type 0 where
+-- So far a buffer was renewed: up to a place. The rest is still to be renewed.
+pub record Renewing (s b : List ℕ) (at : ℕ) (refused : Bool) : Type 0 where
   pub at_within : at ≤ length b
   pub same_length : length b ≡ length s
-  pub next : n ≡ next_of b at
   pub so_far : renewed_of s ≡ take at b ++ renewed_of (drop at b)
   pub rest_ahead : rest_of s ≡ rest_of (drop at b)
   pub refused_so_far : any_refused (framing s).records ≡ refused || any_refused (framing (drop at b)).records
 
-pub renewing_starts : {n : ℕ} (s : List ℕ) → n ≡ next_of s 0 → Renewing s s 0 false n
-renewing_starts s next =
-    record { at_within = omega arith; same_length = refl; next = next; so_far = refl; rest_ahead = refl; refused_so_far = refl }
+pub renewing_starts : (s : List ℕ) → Renewing s s 0 false
+renewing_starts s =
+    record { at_within = omega arith; same_length = refl; so_far = refl; rest_ahead = refl; refused_so_far = refl }
 
-module _ {s b : List ℕ} {at n : ℕ} {refused : Bool} (κ : Renewing s b at refused n) (some : n ≡ 0 → ⊥) where
+module _ {s b : List ℕ} {at n : ℕ} {refused : Bool} {found : Option ℕ} (κ : Renewing s b at refused) (some : found ≡ Some n)
+    (next : found ≡ next_of b at) where
   here : Next b at n
-  here = next_is b at n κ.next some
+  here = next_is b at n (sym some ∙ next)
 
   pub record_within : at + n ≤ length b
   record_within = here.within
@@ -96,19 +85,16 @@ module _ {s b : List ℕ} {at n : ℕ} {refused : Bool} (κ : Renewing s b at re
     pub less_left : length after - (at + n) < length b - at
     less_left = omega (arith, here.at_least, record_within, after_length)
 
-    pub renewing_more : {refused' : Bool} {n' : ℕ} {refusal : ℕ} → refusal ≡ left_with (take (at + n - at) (drop at b))
-        → refused' ≡ refused || not (eqb refusal 0)
-        → n' ≡ next_of after (at + n)
-        → Renewing s after (at + n) refused' n'
+    pub renewing_more : {refusal : ℕ} → refusal ≡ left_with (take (at + n - at) (drop at b))
+        → Renewing s after (at + n) (refused || not (eqb refusal 0))
     unfolding any_refused
-    renewing_more {refused'} {n'} {refusal} answered told next =
+    renewing_more answered =
         let f = drop at b in
         let cut = framing_more f here.is_framed in
         let record_is : take (length_field f) f ≡ take n f = ap (λ k. take k f) (sym here.is_length) in
         record {
           at_within = omega (arith, after_length, record_within);
           same_length = after_length ∙ κ.same_length;
-          next = next;
           so_far = κ.so_far
               ∙ ap (λ t. take at b ++ t) (whole_more renewer f here.is_framed ∙ ap₂ (λ r t. renewed r ++ renewed_of t) record_is ahead)
               ∙ ap (λ t. take at b ++ (t ++ renewed_of (drop (at + n) after))) (sym renewed_one)
@@ -118,17 +104,17 @@ module _ {s b : List ℕ} {at n : ℕ} {refused : Bool} (κ : Renewing s b at re
           refused_so_far = κ.refused_so_far
               ∙ ap (λ x. refused || any_refused x.records) cut
               ∙ ap₂ (λ r t. refused || (not (eqb (left_with r) 0) || any_refused (framing t).records)) record_is ahead
-              ∙ or_assoc refused (not (eqb (left_with (take n f)) 0)) (any_refused (framing (drop (at + n) after)).records)
+              ∙ sym (or_assoc refused (not (eqb (left_with (take n f)) 0)) (any_refused (framing (drop (at + n) after)).records))
               ∙ ap
               (λ k. (refused || not (eqb k 0)) || any_refused (framing (drop (at + n) after)).records)
-              (ap (λ k. left_with (take k f)) (sym same) ∙ sym answered)
-              ∙ ap (λ l. l || any_refused (framing (drop (at + n) after)).records) (sym told);
+              (ap (λ k. left_with (take k f)) (sym same) ∙ sym answered);
         }
 
 -- Where no record is next, all is renewed.
-module _ {s b : List ℕ} {at n : ℕ} {refused : Bool} (κ : Renewing s b at refused n) (none : n ≡ 0) where
+module _ {s b : List ℕ} {at : ℕ} {refused : Bool} {found : Option ℕ} (κ : Renewing s b at refused) (none : found ≡ None)
+    (next : found ≡ next_of b at) where
   no_record_lem : framed (drop at b) ≡ false
-  no_record_lem = next_none b at (sym κ.next ∙ none)
+  no_record_lem = next_none b at (sym next ∙ none)
 
   pub all_renewed : b ≡ renewed_of s
   all_renewed =
@@ -140,7 +126,7 @@ module _ {s b : List ℕ} {at n : ℕ} {refused : Bool} (κ : Renewing s b at re
   refused_is : refused ≡ any_refused (framing s).records
   unfolding any_refused
   refused_is =
-      sym (κ.refused_so_far ∙ ap (λ x. refused || any_refused x.records) (framing_none (drop at b) no_record_lem) ∙ or_nothing refused)
+      sym (κ.refused_so_far ∙ ap (λ x. refused || any_refused x.records) (framing_none (drop at b) no_record_lem) ∙ or-false refused)
 
   pub renewal_is : record { read = at; refused = refused } ≡ renewal_of s
   unfolding renewal_of

@@ -1,9 +1,10 @@
+use mathlib.Core.Path.{sym, ◌∙◌}
 use Rattle.lines.proofs.Lines.{put_no_ending, put_ending}
 use Rattle.lines.proofs.buffer.ending.Goals as goal
 
-pub returns-then-rest-eq0 : goal.returns-then-rest-eq0
-returns-then-rest-eq0 c = search put_no_ending
+pub returns-then-is_empty : goal.returns-then-is_empty
+returns-then-is_empty c = put_no_ending _ _ _ (sym c.is_empty.ensures ∙ c.if-is_empty.true)
 
 pub returns : goal.returns
 returns c =
-    put_ending c.args.rest.now c.if-rest-eq0.false c.refused.ensures
+    put_ending _ (sym c.is_empty.ensures ∙ c.if-is_empty.false) c.refused.ensures
