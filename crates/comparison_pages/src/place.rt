@@ -30,23 +30,11 @@ fn both_months(out: &mut [u8], at: usize, first: Year, second: Year, i: usize) -
     month(out, at, second, i)
 }
 
-// How many days, without the sign.
-fn days_unsigned(days: i64) -> u32
-    requires { nat_abs days < 2 ^ 32 }
-    ensures { result ≡ nat_abs days }
-{
-    if days < 0 {
-        let less = 0 - days;
-        return less as u32;
-    }
-    days as u32
-}
-
 fn days(out: &mut [u8], at: usize, days: i64) -> usize
     requires { (at + 12 ≤ length out.old) × (nat_abs days < 2 ^ 32) }
     ensures { Wrote out.old at (days_text days) out.new result × (result ≤ at + 12) }
 {
-    let size = days_unsigned(days);
+    let size = days.unsigned_abs() as u32;
     if days < 0 {
         let at = text::word(out, at, b" -");
         return text::number(out, at, size);

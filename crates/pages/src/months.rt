@@ -34,14 +34,14 @@ fn told(months: Year, i: usize) -> ToldMonth
     let place = i as u32 + 1;
     let days = next.0 - head.0;
     ToldMonth {
-        place: place,
-        number: number,
-        leap: leap,
+        place,
+        number,
+        leap,
         head: head.0,
         name: name(head),
-        days: days,
-        remainder: remainder,
-        held: held,
+        days,
+        remainder,
+        held,
     }
 }
 

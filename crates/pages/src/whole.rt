@@ -1,4 +1,5 @@
-// The page of a year: its first line, its qi, its months, and the names of its days.
+// The page of a year: its first line, its qi, its months, and the names of its days. A system and a year go as two
+// numbers here, as the requests take them.
 ghost use Rattle.std.specs.Prelude.{◌+◌, ◌≤◌, length};
 ghost use Rattle.text.specs.Wrote.{Wrote};
 ghost use Rattle.pages.specs.Printable.{Printable};

@@ -1,6 +1,10 @@
 // Text for any program: words, decimal numbers, a system's letter and a leap month's star, put into an output at a place.
 // Each function that puts text gives the place after it; where too few bytes are left at the place, the output and the
 // place stay as they are.
+//
+// The output and the place go as a pair. A struct of the two, with methods, was proved for words and fields and was as
+// fast; but each function that takes it has to say as well that it still holds the same output, and names four fields
+// in its contract in place of two parameters.
 #![tactic(auto)]
 
 ghost use Rattle.std.specs.Prelude.{◌≡◌, ◌+◌, ◌*◌, ◌^◌, ◌<◌, ◌≤◌, ltb, length};
@@ -11,7 +15,8 @@ ghost use Rattle.text.specs.Put.{Put};
 
 mod put;
 
-// Whether an output of that length has fewer than `room` bytes left at a place.
+// Whether an output of that length has fewer than `room` bytes left at a place. The crates of pages test by this, since
+// `with_room` has a `requires`, as no public function has.
 pub fn is_short(length: usize, at: usize, room: usize) -> bool
     ensures { result ≡ ltb length (at + room) }
 {
@@ -123,7 +128,8 @@ fn lacks_line(length: usize, at: usize, word: usize, count: usize) -> bool
     is_short(length, at, word + 11 * count + 1)
 }
 
-// A line of a word and numbers, a space before each number, where there is room for ten digits in each.
+// A line of a word and numbers, a space before each number, where there is room for ten digits in each. So much room may
+// be more than a usize can tell, so it is not asked of `with_room`.
 pub fn line(out: &mut [u8], at: usize, bytes: &[u8], numbers: &[u32]) -> usize
     ensures { Put out.old at (length bytes.now + 11 * length numbers.now + 1)
         (line bytes.now numbers.now) out.new result }

@@ -107,6 +107,7 @@ fn from_100(out: &mut [u8], at: usize, n: u32) -> usize
     nine_or_ten_digits(out, at, n)
 }
 
+// Digits are put by hand: itoa's `Buffer::format` and a copy of its text took 1.8 to 2 times as long.
 pub(crate) fn number(out: &mut [u8], at: usize, n: u32) -> usize
     requires { at + 10 ≤ length out.old }
     ensures { Wrote out.old at (decimal n) out.new result × (result ≤ at + 10) }
