@@ -6,6 +6,7 @@ ghost use Rattle.bench_sun.specs.Amounts.{season_of, amount_for};
 
 use solar_inequality::data::Season;
 
+// No `From` of the season's: that any number but 0 is summer is the benchmark's own affair.
 fn season_of(number: u32) -> Season
     ensures { result ≡ season_of number }
 {

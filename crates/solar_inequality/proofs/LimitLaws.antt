@@ -1,9 +1,9 @@
 -- The amount by a limit, over any that meets the list.
-use Prim.Native.Nat.{ℕ, ◌+◌, ◌*◌, ◌-◌, ◌/◌, ◌^◌, ◌≤◌, ◌<◌}
+use Prim.Native.Nat.{ℕ, ◌+◌, ◌*◌, ◌-◌, ◌/◌, ◌≤◌, ◌<◌}
 use mathlib.Core.Path.{◌≡◌, ap, subst, ◌∙◌}
 use native.Mathlib.Nat.{mul-le-mul, le-div_iff_mul-le, div-lt_iff_lt-mul, div-mul-le_self}
 use native.Mathlib.Omega.{arith}
-use mir.Syntax.{w16, w64}
+use mir.Syntax.{w16}
 use mir.Val.{Fits}
 use Rattle.calendar.proofs.Division.{cut_down, cut_down_is}
 use Rattle.solar_inequality.specs.declared.limits.Limit.{Limit}
@@ -79,18 +79,7 @@ module _ (l : Limit) (ok : LimitHolds l) where
         let rest : l.parts ≤ 2 * l.parts - x = omega arith in
         (le-div_iff_mul-le denominator_some).1 (omega (arith, mul-le-mul least rest, ok.amount_least))
 
-    -- The code's numbers fit.
-    product_small : product l.parts x < 2 ^ 42
-    product_small =
-        let small : l.parts ≤ 2 ^ 21 = omega (arith, ok.parts_small) in
-        omega (arith, product_most l.parts x within, mul-le-mul small small)
-
-    pub product_fits : Fits w64 (product l.parts x)
-    product_fits = omega (arith, product_small)
-
-    pub numerator_fits : Fits w64 (10_000 * product l.parts x)
-    numerator_fits = omega (arith, product_small)
-
+    -- It fits the code.
     pub amount_fits : Fits w16 (amount_by l x)
     amount_fits = omega (arith, most)
 

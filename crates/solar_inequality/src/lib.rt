@@ -16,6 +16,7 @@ mod taken;
 const LAST: u32 = 182;
 
 // The amount on a day, so many whole days after the solstice. Refused DAY past the last.
+#[tactic(auto, unfolding(crate::specs::Answers::answer_of))]
 pub fn amount(season: Season, days: u32) -> Answer
     ensures { result ≡ answer_of season days }
 {
@@ -26,9 +27,8 @@ pub fn amount(season: Season, days: u32) -> Answer
         };
     }
     let taken = taken::of_day(season, days);
-    let amount = taken::amount(taken);
     Answer {
         refusal: 0,
-        amount: amount,
+        amount: taken::amount(taken),
     }
 }

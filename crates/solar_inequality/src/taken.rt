@@ -5,8 +5,7 @@ ghost use Rattle.solar_inequality.specs.Limits.{limit_of};
 ghost use Rattle.solar_inequality.specs.LimitHolds.{LimitHolds};
 
 use crate::data::Season;
-use crate::limits;
-use crate::limits::Limit;
+use crate::limits::{HALF_YEAR, Limit};
 use calendar::systems::GUANTIAN_DAY;
 
 // So many parts, x in paper 02, and the season whose limit is used.
@@ -17,20 +16,21 @@ pub(crate) struct Taken {
 }
 
 // The days as they are up to the season's limit; beyond it, what is left of the half year, by the other season's.
+#[tactic(auto, unfolding(crate::specs::Answers::taken_of))]
 pub(crate) fn of_day(season: Season, days: u32) -> Taken
     requires { days ≤ 182 }
     ensures { result ≡ taken_of season days }
 {
     let parts = days as u64 * GUANTIAN_DAY;
-    if parts <= limits::of_season(season).parts {
+    if parts <= season.limit().parts {
         return Taken {
             parts: parts,
             season: season,
         };
     }
     Taken {
-        parts: limits::half_year() - parts,
-        season: limits::other(season),
+        parts: HALF_YEAR - parts,
+        season: season.other(),
     }
 }
 
@@ -45,13 +45,13 @@ fn amount_by(limit: Limit, parts: u64) -> u16
 }
 
 // The seasons are named one by one, so that the compiler knows the divisors.
+#[tactic(auto, unfolding(crate::specs::Answers::amount_taken))]
 pub(crate) fn amount(taken: Taken) -> u16
     requires { taken.parts ≤ (limit_of taken.season).parts }
     ensures { result ≡ amount_taken taken }
 {
-    let season = taken.season;
-    match season {
-        Season::Winter => amount_by(limits::winter(), taken.parts),
-        Season::Summer => amount_by(limits::summer(), taken.parts),
+    match taken.season {
+        Season::Winter => amount_by(Limit::WINTER, taken.parts),
+        Season::Summer => amount_by(Limit::SUMMER, taken.parts),
     }
 }

@@ -30,6 +30,8 @@ pub(crate) struct Numbers {
     ghost fits: { RuleFits constants rule },
 }
 
+// Each of the two requests picks the system by a `match` of its own: a function that handed the numbers to a closure would
+// have a longer contract than both.
 pub(crate) fn guantian() -> Numbers
     ensures constants { result.constants ≡ guantian }
     ensures rule { result.rule ≡ guantian_rule }
