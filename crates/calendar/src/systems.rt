@@ -1,4 +1,5 @@
-// The constants of the systems, which are numbered from 1.
+// The constants of the systems, which are numbered from 1. Each is a function and no `const`, so that it has a promise: a
+// `const` has no clause.
 ghost use Rattle.std.specs.Prelude.{◌≡◌};
 ghost use Rattle.calendar.specs.Systems.{guantian, jiyuan, jingchu};
 
