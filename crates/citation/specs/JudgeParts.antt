@@ -1,5 +1,5 @@
 -- What the parts of the judgement are handed, and what they tell.
-use Rattle.std.specs.Prelude.{ℕ, ◌<◌, ◌≡◌, ◌⊎◌, Bool, not, ◌&&◌, ◌||◌, List, eqb, length}
+use Rattle.std.specs.Prelude.{ℕ, ◌≡◌, ◌⊎◌, Bool, not, ◌&&◌, ◌||◌, List, eqb, length}
 use Rattle.calendar.specs.Inside.{Inside}
 use Rattle.reckoning.specs.declared.data.Month.{Month}
 use Rattle.reckoning.specs.ComputedRefusals.{outside}
@@ -14,14 +14,6 @@ is_kind kind = not (outside 1 5 kind || eqb kind 2)
 -- A whole record: of such a kind, and as long as that.
 abbrev pub is_whole : List ℕ → Bool
 is_whole s = is_kind (kind_of s) && length_right s
-
--- Numbers that fit the fields of a kind 1 record.
-pub record Fields (system year month leap day : ℕ) : Type 0 where
-  pub system_byte : system < 256
-  pub year_bytes : year < 65_536
-  pub month_byte : month < 256
-  pub leap_byte : leap < 256
-  pub day_byte : day < 256
 
 -- A whole record of a kind: ten bytes of kind 1 or 5, or nine of kind 3 or 4.
 pub record Whole (s : List ℕ) (kind : ℕ) : Type 0 where

@@ -2,10 +2,10 @@
 ghost use Rattle.std.specs.Prelude.{◌≡◌, false, ◌<◌, ◌^◌, length};
 ghost use Rattle.citation.specs.Store.{refuse_telling, refuse, accept, judge_register_day, judge_ordinal, judge_day, days_to_name, judge_name};
 ghost use Rattle.citation.specs.Store.{judge_kind, judge_of};
-ghost use Rattle.citation.specs.JudgeParts.{Fields, Whole, Found, is_whole};
+ghost use Rattle.citation.specs.JudgeParts.{Whole, Found, is_whole};
 
 use calendar::data::{DayName, Ordinal, RegisterDay};
-use little_endian::{le16, le32, wide};
+use little_endian::{le16, le32};
 use reckoning::data::Month;
 use reckoning::refusal::outside;
 use reckoning::refusal_numbers::{DAY, KIND, LENGTH, RETIRED, SHORT};
@@ -37,76 +37,82 @@ fn refuse(refusal: u8) -> Judgement
     refuse_telling(refusal, 0)
 }
 
-fn accept(r: u32, system: u32, year: u32, month: u32, leap: u32, day: u32) -> Judgement
-    requires { Fields system year month leap day }
-    ensures { result ≡ accept r system year month leap day }
+// A month as a record has it.
+#[derive(Clone, Copy)]
+struct MonthCited {
+    system: u8,
+    year: u16,
+    number: u8,
+    leap: u8,
+}
+
+// A day, the month with it, and its place in the month.
+fn accept(day: RegisterDay, cited: MonthCited, place: u8) -> Judgement
+    ensures { result ≡ accept day.0 cited.system cited.year cited.number cited.leap place }
 {
+    let [low, high] = cited.year.to_le_bytes();
     Judgement {
         refusal: 0,
-        day: RegisterDay(r),
+        day: day,
         stored: [
             10,
             0,
             1,
             0,
-            system as u8,
-            (year % 256) as u8,
-            (year / 256) as u8,
-            month as u8,
-            leap as u8,
-            day as u8,
+            cited.system,
+            low,
+            high,
+            cited.number,
+            cited.leap,
+            place,
         ],
         told: 0,
     }
 }
 
 // Kind 3.
-fn judge_ordinal(system: u32, year: u32, ordinal: Ordinal) -> Judgement
-    requires { (system < 256) × (year < 65_536) }
+fn judge_ordinal(system: u8, year: u16, ordinal: Ordinal) -> Judgement
     ensures { result ≡ judge_ordinal system year ordinal.0 }
 {
-    let d = reckoning::ordinal_day(system, year, ordinal);
+    let d = reckoning::ordinal_day(system as u32, year as u32, ordinal);
     if d.refusal != 0 {
         return refuse(d.refusal);
     }
-    accept(
-        d.day.0,
-        system,
-        year,
-        d.month as u32,
-        d.leap as u32,
-        d.place as u32,
-    )
+    let cited = MonthCited {
+        system: system,
+        year: year,
+        number: d.month,
+        leap: d.leap,
+    };
+    accept(d.day, cited, d.place)
 }
 
 // Kind 4.
-fn judge_register_day(system: u32, day: RegisterDay) -> Judgement
-    requires { system < 256 }
+fn judge_register_day(system: u8, day: RegisterDay) -> Judgement
     ensures { result ≡ judge_register_day system day.0 }
 {
-    let d = reckoning::date(system, day);
+    let d = reckoning::date(system as u32, day);
     if d.refusal != 0 {
         return refuse(d.refusal);
     }
-    accept(
-        day.0,
-        system,
-        d.year,
-        d.month as u32,
-        d.leap as u32,
-        d.day as u32,
-    )
+    let cited = MonthCited {
+        system: system,
+        year: d.year as u16,
+        number: d.month,
+        leap: d.leap,
+    };
+    accept(day, cited, d.day)
 }
 
 // Kind 1, in its month.
-fn judge_day(m: Month, system: u32, year: u32, month: u32, leap: u32, day: u32) -> Judgement
-    requires { Fields system year month leap day × Found m system year month leap }
-    ensures { result ≡ judge_day system year month leap day }
+fn judge_day(m: Month, cited: MonthCited, day: u8) -> Judgement
+    requires { Found m cited.system cited.year cited.number cited.leap }
+    ensures { result ≡ judge_day cited.system cited.year cited.number cited.leap day }
 {
-    if outside(1, m.length as u32, day) {
+    if outside(1, m.length as u32, day as u32) {
         return refuse(DAY);
     }
-    accept(m.head.0 + day - 1, system, year, month, leap, day)
+    accept(RegisterDay(m.head.0 + day as u32 - 1), cited, day)
 }
 
 // Sixty times a number, and more than any head.
@@ -122,9 +128,9 @@ fn days_to_name(head: RegisterDay, name: DayName) -> u32
 }
 
 // Kind 5, in its month.
-fn judge_name(m: Month, system: u32, year: u32, month: u32, leap: u32, name: DayName) -> Judgement
-    requires { Fields system year month leap 0 × Found m system year month leap }
-    ensures { result ≡ judge_name system year month leap name.0 }
+fn judge_name(m: Month, cited: MonthCited, name: DayName) -> Judgement
+    requires { Found m cited.system cited.year cited.number cited.leap }
+    ensures { result ≡ judge_name cited.system cited.year cited.number cited.leap name.0 }
 {
     if outside(1, 60, name.0 as u32) {
         return refuse(DAY);
@@ -133,7 +139,7 @@ fn judge_name(m: Month, system: u32, year: u32, month: u32, leap: u32, name: Day
     if m.length as u32 <= days {
         return refuse(DAY);
     }
-    accept(m.head.0 + days, system, year, month, leap, days + 1)
+    accept(RegisterDay(m.head.0 + days), cited, days as u8 + 1)
 }
 
 // A record whose kind and length are right. Each request to the reckoning stands at one place: the compiler copies those
@@ -142,23 +148,28 @@ fn judge_kind(s: &[u8], kind: u32) -> Judgement
     requires { Whole s.now kind }
     ensures { result ≡ judge_kind s.now }
 {
-    let system = wide(s[4]);
+    let system = s[4];
     if s.len() == 10 {
         let year = le16(s[5], s[6]);
-        let month = wide(s[7]);
-        let leap = wide(s[8]);
-        let m = reckoning::month(system, year, month, leap);
+        let number = s[7];
+        let leap = s[8];
+        let m = reckoning::month(system as u32, year, number as u32, leap as u32);
         if m.refusal != 0 {
             return refuse_telling(m.refusal, m.told);
         }
+        let cited = MonthCited {
+            system: system,
+            year: year as u16,
+            number: number,
+            leap: leap,
+        };
         if kind == 1 {
-            return judge_day(m, system, year, month, leap, wide(s[9]));
+            return judge_day(m, cited, s[9]);
         }
-        let name = s[9];
-        return judge_name(m, system, year, month, leap, DayName(name));
+        return judge_name(m, cited, DayName(s[9]));
     }
     if kind == 3 {
-        let year = le16(s[5], s[6]);
+        let year = le16(s[5], s[6]) as u16;
         let ordinal = le16(s[7], s[8]) as u16;
         return judge_ordinal(system, year, Ordinal(ordinal));
     }

@@ -8,14 +8,14 @@ use Rattle.citation.proofs.judge.judge_day.Goals.{Else-outside}
 
 pub returns-then-outside : goal.returns-then-outside
 returns-then-outside c =
-    let found = c.requires.1 in
+    let found = c.requires in
     let wrong = sym c.outside.ensures ∙ c.if-outside.true in
     c.refuse.ensures ∙ day_wrong_lem _ _ _ _ _ _ found.is_month found.not_refused wrong
 
 pub overflow_add-m : goal.overflow_add-m
 overflow_add-m c =
-    let small = month_fits _ _ _ _ _ c.requires.1.is_month c.requires.1.not_refused in
-    omega (arith, c.requires.0)
+    let small = month_fits _ _ _ _ _ c.requires.is_month c.requires.not_refused in
+    omega arith
 
 pub overflow_sub-m : goal.overflow_sub-m
 overflow_sub-m c =
@@ -25,5 +25,5 @@ overflow_sub-m c =
 
 pub returns : goal.returns
 returns c =
-    let found = c.requires.1 in
+    let found = c.requires in
     c.accept.ensures ∙ day_right _ _ _ _ _ _ found.is_month found.not_refused ((sym c.outside.ensures ∙ c.if-outside.false))

@@ -7,8 +7,8 @@ use Rattle.citation.proofs.judge.judge_register_day.Goals as goal
 pub returns-then-d-ne0 : goal.returns-then-d-ne0
 returns-then-d-ne0 c = c.refuse.ensures ∙ date_refused _ _ _ c.date-d.ensures c.if-d-ne0.true
 
-pub accept-requires : goal.accept-requires
-accept-requires c =
+pub overflow_cast-cited : goal.overflow_cast-cited
+overflow_cast-cited c =
     let small = date_fits _ _ c.date-d.ensures c.if-d-ne0.false in
     omega arith
 
