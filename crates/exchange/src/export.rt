@@ -21,10 +21,9 @@ pub fn chiselbrow_export(system: u64, day: u32, parts: u64, units: u64, output: 
     if in_day as u64 <= parts {
         return TIME as u64 * REFUSAL_UNIT;
     }
-    if output.len() < row::SIZE {
+    let Some(written) = output.first_chunk_mut::<{ row::SIZE }>() else {
         return OUTPUT as u64 * REFUSAL_UNIT;
-    }
-    let written = row::of_fraction(RegisterDay(day), fraction(in_day, parts as u32));
-    output[..row::SIZE].copy_from_slice(&written);
+    };
+    *written = row::of_fraction(RegisterDay(day), fraction(in_day, parts as u32));
     if units == 0 { 0 } else { 1 }
 }
