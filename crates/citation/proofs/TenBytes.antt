@@ -5,7 +5,7 @@ use mathlib.Core.Bool.{true, false, cond}
 use mathlib.Core.List.{List, [], ◌∷◌, ◌++◌}
 use native.Mathlib.Omega.{arith}
 use lib.ListN.{length, get_or, drop, drop_of_length-le}
-use lib.Seq.{drop-cons, sets, sets-eq}
+use lib.Seq.{drop-cons}
 use lib.Dec.{leb}
 use borrow.Author.Tests.{le-leb, lt-leb, leb-true, leb-false}
 use Rattle.citation.specs.Output.{record_into}
@@ -23,24 +23,15 @@ elements_drop l (suc n) i e = drop-cons l i 0 (omega arith) ∙ ap (λ t. get_or
 pub elements_all : (l : List ℕ) (n : ℕ) → n ≡ length l → l ≡ elements l 0 n
 elements_all l n e = elements_drop l n 0 (omega arith)
 
--- A list written element by element over the front of another.
-front_set : (l r : List ℕ) → length r ≡ 10 → 10 ≤ length l → sets l 0 (elements r 0 10) ≡ r ++ drop 10 l
-unfolding elements
-front_set l r e h = sets-eq (elements r 0 10) l 0 h ∙ ap (λ t. t ++ drop 10 l) (sym (elements_drop r 10 0 (sym e)))
-
 -- Where there is room for them, and where there is not.
 module _ (l r : List ℕ) where
-  pub put_with_room : length r ≡ 10 → 10 ≤ length l → (true ≡ leb 10 (length l)) × (sets l 0 (elements r 0 10) ≡ record_into r l)
+  pub put_with_room : 10 ≤ length l → r ++ drop 10 l ≡ record_into r l
   unfolding record_into
-  put_with_room e h =
-      let room = le-leb 10 (length l) h in
-      (sym room, front_set l r e h ∙ ap (λ b. cond b (r ++ drop 10 l) l) (sym room))
+  put_with_room h = ap (λ b. cond b (r ++ drop 10 l) l) (sym (le-leb 10 (length l) h))
 
-  pub put_without_room : length l < 10 → (false ≡ leb 10 (length l)) × (l ≡ record_into r l)
+  pub put_without_room : length l < 10 → l ≡ record_into r l
   unfolding record_into
-  put_without_room h =
-      let none = lt-leb 10 (length l) h in
-      (sym none, ap (λ b. cond b (r ++ drop 10 l) l) (sym none))
+  put_without_room h = ap (λ b. cond b (r ++ drop 10 l) l) (sym (lt-leb 10 (length l) h))
 
   -- what was written, by the answer
   pub put_true : leb 10 (length l) ≡ true → (10 ≤ length l) × (record_into r l ≡ r ++ drop 10 l)

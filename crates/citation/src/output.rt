@@ -11,16 +11,7 @@ pub fn put(output: &mut [u8], bytes: Record) -> bool
     ensures output_after { output.new ≡ record_into bytes output.old }
 {
     if 10 <= output.len() {
-        output[0] = bytes[0];
-        output[1] = bytes[1];
-        output[2] = bytes[2];
-        output[3] = bytes[3];
-        output[4] = bytes[4];
-        output[5] = bytes[5];
-        output[6] = bytes[6];
-        output[7] = bytes[7];
-        output[8] = bytes[8];
-        output[9] = bytes[9];
+        output[..10].copy_from_slice(&bytes);
         return true;
     }
     false
