@@ -14,13 +14,7 @@ use reckoning::refusal_numbers::{DAY, KIND, LENGTH, OUTPUT, REFUSAL_UNIT, SHORT}
 fn is_convertible(s: &[u8]) -> bool
     ensures { result ≡ eqb (conversion_refusal s.now) 0 }
 {
-    if s.len() != 10 {
-        return false;
-    }
-    if le16(s[0], s[1]) != 10 {
-        return false;
-    }
-    if le16(s[2], s[3]) != 2 {
+    if s.len() != 10 || le16(s[0], s[1]) != 10 || le16(s[2], s[3]) != 2 {
         return false;
     }
     s[9] < 60
@@ -37,10 +31,7 @@ fn refuse(s: &[u8]) -> u8
     if le16(s[2], s[3]) != 2 {
         return KIND;
     }
-    if s.len() != 10 {
-        return LENGTH;
-    }
-    if le16(s[0], s[1]) != 10 {
+    if s.len() != 10 || le16(s[0], s[1]) != 10 {
         return LENGTH;
     }
     DAY
@@ -68,10 +59,7 @@ fn raised(s: &[u8]) -> Record
 fn is_another(s: &[u8]) -> bool
     ensures { result ≡ eqb (conversion_refusal s.now) KIND }
 {
-    if s.len() < 4 {
-        return false;
-    }
-    le16(s[2], s[3]) != 2
+    4 <= s.len() && le16(s[2], s[3]) != 2
 }
 
 // The refusal of a record that is left, 0 of one that is converted or of another kind.
