@@ -11,7 +11,7 @@ use Rattle.calendar.specs.Consistent.{Consistent}
 use Rattle.calendar.specs.ClosedForms.{month_of_day, first_month, head_of_year}
 use Rattle.calendar.proofs.Laws.{year_months, days_of_twelve, days_of_thirteen}
 use Rattle.calendar.proofs.Spans.{span}
-use Rattle.reckoning.specs.declared.data.Days.{Days}
+use Rattle.reckoning.specs.Answers.{DaysAnswer}
 use Rattle.reckoning.specs.ComputedRefusals.{outside, year_refusal}
 use Rattle.reckoning.specs.RefusalNumbers.{SYSTEM}
 use Rattle.reckoning.specs.Requests as Requests
@@ -22,7 +22,7 @@ use Rattle.reckoning.proofs.AnswerUnless.{by_answer}
 use Rattle.reckoning.proofs.HeadLaws.{month_of_head, is_its_months_head, count_day_lem, head_of}
 use Rattle.reckoning.proofs.RegisterLaws.{first_head, next_head_lem, months_in_register}
 use Rattle.reckoning.proofs.ScopeInRegister.{year_in_register}
-use Rattle.submerged_extinguished.specs.declared.data.ExtinguishedDays.{ExtinguishedDays}
+use Rattle.submerged_extinguished.specs.Records.{MoonsAnswer}
 use Rattle.submerged_extinguished.specs.Rules.{last_rule, HasRule, rule_of}
 use Rattle.submerged_extinguished.specs.Answers.{extinguished_from, no_days, extinguished_days_of}
 use Rattle.submerged_extinguished.specs.Moons.{months_in}
@@ -68,12 +68,12 @@ module _ (c : Constants) (n : ℕ) (r : YearInRegister c n) where
       simp (le-ltb long 383 much) (sym thirteen))
       (year_months c ok y)
 
-pub returns_no_rule : (system year : ℕ) {b : Bool} {v : ExtinguishedDays} → b ≡ outside 1 last_rule system → b ≡ true → v ≡ no_days SYSTEM
+pub returns_no_rule : (system year : ℕ) {b : Bool} {v : MoonsAnswer} → b ≡ outside 1 last_rule system → b ≡ true → v ≡ no_days SYSTEM
     → v ≡ extinguished_days_of system year
 returns_no_rule system year test out is = is ∙ sym (no_rule system year (sym test ∙ out))
 
 -- The days that were asked for: refused, or those of a year in scope.
-module _ (system year : ℕ) {days : Days} (asked : days ≡ days_of system year) where
+module _ (system year : ℕ) {days : DaysAnswer} (asked : days ≡ days_of system year) where
   abbrev c : Constants
   c = constants_of system
 
@@ -94,7 +94,7 @@ module _ (system year : ℕ) {days : Days} (asked : days ≡ days_of system year
     has : HasRule system
     has = rule_tested system test into
 
-    pub returns_refusal : {v : ExtinguishedDays} → (days.refusal ≡ 0 → ⊥) → v ≡ no_days days.refusal
+    pub returns_refusal : {v : MoonsAnswer} → (days.refusal ≡ 0 → ⊥) → v ≡ no_days days.refusal
         → v ≡ extinguished_days_of system year
     returns_refusal some is =
         by_days
@@ -128,7 +128,7 @@ module _ (system year : ℕ) {days : Days} (asked : days ≡ days_of system year
             subst₂ (MonthsInRegister c) (sym are.0) (sym are.1) (months_in_register c n r),
           ))
 
-      pub returns_days : {v : ExtinguishedDays} → v ≡ extinguished_from c (rule_of system) first count → v ≡ extinguished_days_of system year
+      pub returns_days : {v : MoonsAnswer} → v ≡ extinguished_from c (rule_of system) first count → v ≡ extinguished_days_of system year
       returns_days is =
           in_scope_days
           (λ s given.

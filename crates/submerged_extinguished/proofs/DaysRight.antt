@@ -14,7 +14,7 @@ use Rattle.calendar.proofs.EachSystem.{consistent}
 use Rattle.calendar.proofs.Spans.{span_first, span_next}
 use Rattle.reckoning.specs.Requests.{qi_of}
 use Rattle.reckoning.specs.Scope.{YearInScope, InScope}
-use Rattle.submerged_extinguished.specs.declared.data.Answer.{Answer}
+use Rattle.submerged_extinguished.specs.Records.{DayAnswer}
 use Rattle.submerged_extinguished.specs.declared.rules.Rule.{Rule}
 use Rattle.submerged_extinguished.specs.Rules.{guantian_rule, jiyuan_rule, HasRule, rule_of}
 use Rattle.submerged_extinguished.specs.Distances.{SubmergedSays, ExtinguishedSays, GuantianSays, JiyuanSays}
@@ -100,7 +100,7 @@ module _ (system : ℕ) (has : HasRule system) where
   in_short_months = Moons.in_short_months c (consistent system) rule (Each.rule_holds system has)
 
 -- The same ranges, of the answers, whatever is asked.
-refused_none : {number : ℕ} {v : Answer} {days : ℕ} → Refused number v → v.distance ≡ Some days → ⊥
+refused_none : {number : ℕ} {v : DayAnswer} {days : ℕ} → Refused number v → v.distance ≡ Some days → ⊥
 refused_none refused e = cc (refused.no_distance, e)
 
 pub submerged_answers : (system year i days : ℕ) → (submerged_of system year i).distance ≡ Some days → (1 ≤ days) × (days ≤ 16)

@@ -6,16 +6,16 @@ use Rattle.std.proofs.Common.{Some, None}
 use Rattle.reckoning.specs.ComputedRefusals.{year_refusal, step_refusal}
 use Rattle.reckoning.specs.Filled.{filled}
 use Rattle.reckoning.specs.Requests.{as_register_day, step_of}
-use Rattle.submerged_extinguished.specs.declared.data.Answer.{Answer}
+use Rattle.submerged_extinguished.specs.Records.{DayAnswer}
 use Rattle.submerged_extinguished.specs.Rules.{guantian_rule, jiyuan_rule}
 use Rattle.submerged_extinguished.specs.Answers.{submerged_by, extinguished_by, submerged_after, answer_at, submerged_in, submerged_of}
 use Rattle.submerged_extinguished.specs.Answers.{extinguished_from, extinguished_days_of, extinguished_of}
 
 -- So many days after a day, and none after it.
-abbrev after : ℕ → ℕ → Answer
+abbrev after : ℕ → ℕ → DayAnswer
 after days day = answer_at (as_register_day day) (Some days)
 
-abbrev none_after : ℕ → Answer
+abbrev none_after : ℕ → DayAnswer
 none_after day = answer_at (as_register_day day) None
 
 -- Remainders of Guantian: 9,401 parts and 24 small units, the last before the limit; 9,403 and 12, the first after it;
@@ -51,7 +51,7 @@ unfolding submerged_in submerged_by step_of step_refusal
 first_and_last_qi = refl
 
 -- Refused: a number, day 0 and no distance; the system first, then the year, then the qi.
-abbrev refused : ℕ → Answer
+abbrev refused : ℕ → DayAnswer
 refused number = record { refusal = number; day = record { 0 = 0 }; distance = None }
 
 pub submerged_refused :

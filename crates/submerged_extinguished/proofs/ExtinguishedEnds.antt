@@ -21,8 +21,7 @@ use Rattle.reckoning.proofs.FilledLaws.{filled_below, filled_past, replicate_rea
 use Rattle.reckoning.proofs.RefusalCases.{by_inside, inside, inside_of}
 use Rattle.reckoning.proofs.RegisterLaws.{months_in_register}
 use Rattle.reckoning.proofs.ScopeInRegister.{year_in_register}
-use Rattle.submerged_extinguished.specs.declared.data.Answer.{Answer}
-use Rattle.submerged_extinguished.specs.declared.data.ExtinguishedDays.{ExtinguishedDays}
+use Rattle.submerged_extinguished.specs.Records.{DayAnswer, MoonsAnswer}
 use Rattle.submerged_extinguished.specs.Rules.{last_rule, HasRule, rule_of}
 use Rattle.submerged_extinguished.specs.Answers.{no_answer, extinguished_at, unused, no_moons, extinguished_from, extinguished_days_in}
 use Rattle.submerged_extinguished.specs.Answers.{no_days, extinguished_days_of, answer_on, extinguished_of}
@@ -34,7 +33,7 @@ use Rattle.submerged_extinguished.proofs.SubmergedEnds.{blank}
 
 -- The answer at a place, by its year's extinguished days.
 module _ (system year place : ℕ) where
-  abbrev days : ExtinguishedDays
+  abbrev days : MoonsAnswer
   days = extinguished_days_of system year
 
   pub of_refused : (number : ℕ) → days.refusal ≡ number → (number ≡ 0 → ⊥) → extinguished_of system year place ≡ no_answer number
@@ -201,12 +200,12 @@ one_by_one system year i h =
     ∙ sym (of_place system year (i + 1) (listed_accepted system year i h) within)
 
 -- What the code returns, by the days that it asked for.
-pub promised : {v : Answer} (system year place : ℕ) → v ≡ extinguished_of system year place
+pub promised : {v : DayAnswer} (system year place : ℕ) → v ≡ extinguished_of system year place
     → (v ≡ extinguished_of system year place) × O.ExtinguishedOutcome system year place v
 promised system year place is = (is, subst (O.ExtinguishedOutcome system year place) (sym is) (extinguished_outcome system year place))
 
-module _ (system year place : ℕ) {got : ExtinguishedDays} (asked : got ≡ extinguished_days_of system year) where
-  pub returns_refusal : {v : Answer} → (got.refusal ≡ 0 → ⊥) → v ≡ no_answer got.refusal → v ≡ extinguished_of system year place
+module _ (system year place : ℕ) {got : MoonsAnswer} (asked : got ≡ extinguished_days_of system year) where
+  pub returns_refusal : {v : DayAnswer} → (got.refusal ≡ 0 → ⊥) → v ≡ no_answer got.refusal → v ≡ extinguished_of system year place
   returns_refusal some is = is ∙ sym (of_refused system year place got.refusal (sym (ap (λ w. w.refusal) asked)) some)
 
   module _ (none : got.refusal ≡ 0) {b : Bool} (test : b ≡ outside 1 got.count place) where
@@ -216,17 +215,17 @@ module _ (system year place : ℕ) {got : ExtinguishedDays} (asked : got ≡ ext
     tested : outside 1 (extinguished_days_of system year).count place ≡ b
     tested = sym (test ∙ ap (λ w. outside 1 w.count place) asked)
 
-    pub returns_lacking : {v : Answer} → b ≡ true → v ≡ no_answer DAY → v ≡ extinguished_of system year place
+    pub returns_lacking : {v : DayAnswer} → b ≡ true → v ≡ no_answer DAY → v ≡ extinguished_of system year place
     returns_lacking out is = is ∙ sym (of_lacking system year place accepted_days (tested ∙ out))
 
-    pub returns_answer : {v : Answer} → b ≡ false → v ≡ answer_on (get_or got.moons (place - 1) unused) → v ≡ extinguished_of system year place
+    pub returns_answer : {v : DayAnswer} → b ≡ false → v ≡ answer_on (get_or got.moons (place - 1) unused) → v ≡ extinguished_of system year place
     returns_answer into is =
         is
         ∙ ap (λ w. answer_on (get_or w.moons (place - 1) unused)) asked
         ∙ sym (of_place system year place accepted_days (tested ∙ into))
 
 -- A place that is tested can be read.
-module _ (system year place : ℕ) {got : ExtinguishedDays} (asked : got ≡ extinguished_days_of system year)
+module _ (system year place : ℕ) {got : MoonsAnswer} (asked : got ≡ extinguished_days_of system year)
     {b : Bool}
     (test : b ≡ outside 1 got.count place)
     (into : b ≡ false)

@@ -9,8 +9,8 @@ use Rattle.calendar.proofs.HeldQi.{remainder_below}
 use Rattle.reckoning.specs.Filled.{filled}
 use Rattle.reckoning.specs.WordBounds.{MonthsInRegister}
 use Rattle.reckoning.proofs.FilledLaws.{filled_none, filled_more}
+use Rattle.submerged_extinguished.specs.Records.{MoonsAnswer}
 use Rattle.submerged_extinguished.specs.declared.data.Extinguished.{Extinguished}
-use Rattle.submerged_extinguished.specs.declared.data.ExtinguishedDays.{ExtinguishedDays}
 use Rattle.submerged_extinguished.specs.declared.moons.Moon.{Moon}
 use Rattle.submerged_extinguished.specs.declared.rules.Rule.{Rule}
 use Rattle.submerged_extinguished.specs.Answers.{extinguished_at, no_moons, extinguished_from}
@@ -65,7 +65,7 @@ module _ {c : Constants} {rule : Rule} {count : ℕ} {start : Moon} where
 
   pub listing_all : {i : ℕ} {moons : List Extinguished} {moon : Moon} → Listing c rule count start i moons moon → i ≡ count
       → (k : ℕ) → start ≡ moon_at c k → MonthsInRegister c k count
-      → ◌≡◌ {A = ExtinguishedDays} (record { refusal = 0; count = count; moons = moons }) (extinguished_from c rule k count)
+      → ◌≡◌ {A = MoonsAnswer} (record { refusal = 0; count = count; moons = moons }) (extinguished_from c rule k count)
   unfolding extinguished_from
   listing_all l all k at there =
       let so = (l.so_far k at there).1 ∙ ap (filled (λ j. extinguished_at c rule (k + j)) no_moons) all in

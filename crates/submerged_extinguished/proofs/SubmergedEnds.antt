@@ -8,7 +8,7 @@ use Rattle.std.proofs.Common.{Option}
 use Rattle.calendar.specs.declared.data.Constants.{Constants}
 use Rattle.calendar.specs.Systems.{constants_of}
 use Rattle.calendar.proofs.Rising.{by_order}
-use Rattle.reckoning.specs.declared.data.Moment.{Moment}
+use Rattle.reckoning.specs.Answers.{MomentAnswer}
 use Rattle.reckoning.specs.ComputedRefusals.{outside, qi_refusal}
 use Rattle.reckoning.specs.RefusalNumbers.{SYSTEM, YEAR, STEP}
 use Rattle.reckoning.specs.Requests.{qi_of}
@@ -16,7 +16,7 @@ use Rattle.reckoning.specs.Scope.{InScope}
 use Rattle.reckoning.proofs.RefusalCases.{inside, step_unseen, step_refused, accepted_step}
 use Rattle.reckoning.proofs.RefusedRequests.{qi_blank}
 use Rattle.reckoning.proofs.AnswersRight.{qi_holds}
-use Rattle.submerged_extinguished.specs.declared.data.Answer.{Answer}
+use Rattle.submerged_extinguished.specs.Records.{DayAnswer}
 use Rattle.submerged_extinguished.specs.Rules.{last_rule, HasRule, rule_of}
 use Rattle.submerged_extinguished.specs.Distances.{SubmergedSays}
 use Rattle.submerged_extinguished.specs.Answers.{exact_remainder, submerged_after, no_answer, answer_at}
@@ -26,16 +26,16 @@ use Rattle.submerged_extinguished.proofs.RuleLaws.{remainder_below, submerged_sa
 use Rattle.submerged_extinguished.proofs.EachRule.{rule_holds}
 use Rattle.submerged_extinguished.proofs.RuleScope.{rule_tested, by_rule}
 
-abbrev answer_by : ℕ → Moment → Answer
+abbrev answer_by : ℕ → MomentAnswer → DayAnswer
 answer_by system qi = answer_at qi.day (submerged_after system qi.parts qi.units)
 
 -- A blank answer is a refused one.
-pub blank : {v : Answer} {number : ℕ} → v ≡ no_answer number → O.Refused number v
+pub blank : {v : DayAnswer} {number : ℕ} → v ≡ no_answer number → O.Refused number v
 blank is =
     record { carries = ap (λ w. w.refusal) is; no_day = ap (λ w. w.day.0) is; no_distance = ap (λ w. w.distance) is }
 
 -- A system that has a rule: the request is refused as the qi was, or answered.
-module _ (system : ℕ) (has : HasRule system) (qi : Moment) where
+module _ (system : ℕ) (has : HasRule system) (qi : MomentAnswer) where
   refused_as : (number : ℕ) → qi.refusal ≡ number → (number ≡ 0 → ⊥) → submerged_in system qi ≡ no_answer number
   unfolding submerged_in
   refused_as number is some =
@@ -49,7 +49,7 @@ module _ (system year i : ℕ) (has : HasRule system) where
   abbrev c : Constants
   c = constants_of system
 
-  abbrev qi : Moment
+  abbrev qi : MomentAnswer
   qi = qi_of system year i
 
   abbrev r : ℕ
@@ -96,7 +96,7 @@ module _ (system year i : ℕ) (has : HasRule system) where
         says = here.1;
       })
 
-no_rule_blank : (system : ℕ) (qi : Moment) → outside 1 last_rule system ≡ true → submerged_in system qi ≡ no_answer SYSTEM
+no_rule_blank : (system : ℕ) (qi : MomentAnswer) → outside 1 last_rule system ≡ true → submerged_in system qi ≡ no_answer SYSTEM
 unfolding submerged_in
 no_rule_blank system qi out = simp out
 
@@ -122,16 +122,16 @@ not_refused system year i none =
     (λ zero. omega arith)
 
 -- What the code returns.
-pub promised : {v : Answer} (system year i : ℕ) → v ≡ submerged_of system year i
+pub promised : {v : DayAnswer} (system year i : ℕ) → v ≡ submerged_of system year i
     → (v ≡ submerged_of system year i) × O.SubmergedOutcome system year i v
 promised system year i is = (is, subst (O.SubmergedOutcome system year i) (sym is) (submerged_outcome system year i))
 
 module _ (system year i : ℕ) {b : Bool} (test : b ≡ outside 1 last_rule system) where
-  pub no_rule : {v : Answer} → b ≡ true → v ≡ no_answer SYSTEM → v ≡ submerged_of system year i
+  pub no_rule : {v : DayAnswer} → b ≡ true → v ≡ no_answer SYSTEM → v ≡ submerged_of system year i
   no_rule out is = is ∙ sym (no_rule_blank system (qi_of system year i) (sym test ∙ out))
 
-  module _ {qi : Moment} (asked : qi ≡ qi_of system year i) (into : b ≡ false) where
-    pub returns_refusal : {v : Answer} → (qi.refusal ≡ 0 → ⊥) → v ≡ no_answer qi.refusal → v ≡ submerged_of system year i
+  module _ {qi : MomentAnswer} (asked : qi ≡ qi_of system year i) (into : b ≡ false) where
+    pub returns_refusal : {v : DayAnswer} → (qi.refusal ≡ 0 → ⊥) → v ≡ no_answer qi.refusal → v ≡ submerged_of system year i
     returns_refusal some is =
         is ∙ sym (refused_as system (rule_tested system test into) qi qi.refusal refl some) ∙ ap (submerged_in system) asked
 

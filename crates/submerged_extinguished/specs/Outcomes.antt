@@ -7,12 +7,12 @@ use Rattle.calendar.specs.Month.{new_moon_remainder, month_head}
 use Rattle.calendar.specs.Year.{InYear}
 use Rattle.reckoning.specs.RefusalNumbers.{SYSTEM, YEAR, DAY, STEP}
 use Rattle.reckoning.specs.Scope.{YearInScope}
-use Rattle.submerged_extinguished.specs.declared.data.Answer.{Answer}
+use Rattle.submerged_extinguished.specs.Records.{DayAnswer}
 use Rattle.submerged_extinguished.specs.Rules.{HasRule, rule_of}
 use Rattle.submerged_extinguished.specs.Distances.{SubmergedSays, ExtinguishedSays}
 
 -- Refused: the number, day 0 and no distance.
-pub record Refused (number : ℕ) (v : Answer) : Type 0 where
+pub record Refused (number : ℕ) (v : DayAnswer) : Type 0 where
   pub carries : v.refusal ≡ number
   pub no_day : v.day.0 ≡ 0
   pub no_distance : v.distance ≡ None
@@ -23,7 +23,7 @@ pub record QiFalls (c : Constants) (n i day remainder : ℕ) : Type 0 where
   pub below : remainder < c.solar * c.units
 
 -- The submerged day of a qi, answered: the qi's day, and the distance by its remainder.
-pub record SubmergedFound (system year i : ℕ) (v : Answer) : Type 0 where
+pub record SubmergedFound (system year i : ℕ) (v : DayAnswer) : Type 0 where
   pub has_rule : HasRule system
   pub year_inside : YearInScope year
   pub qi_inside : i ≤ 24
@@ -35,7 +35,7 @@ pub record SubmergedFound (system year i : ℕ) (v : Answer) : Type 0 where
   pub says : SubmergedSays (constants_of system) (rule_of system) remainder v.distance
 
 -- Refused SYSTEM, then YEAR, then STEP for a qi above 24; or answered.
-pub data SubmergedOutcome (system year i : ℕ) (v : Answer) : Type 0 where
+pub data SubmergedOutcome (system year i : ℕ) (v : DayAnswer) : Type 0 where
   system_refused : (HasRule system → ⊥) → Refused SYSTEM v → SubmergedOutcome system year i v
   year_refused : HasRule system → (YearInScope year → ⊥) → Refused YEAR v → SubmergedOutcome system year i v
   qi_refused : HasRule system → YearInScope year → 24 < i → Refused STEP v → SubmergedOutcome system year i v
@@ -47,7 +47,7 @@ pub record AtPlace (c : Constants) (n place k : ℕ) : Type 0 where
   pub place_is : in_year.span.first + place ≡ k + 1
 
 -- The extinguished day of a new moon, answered: the new moon's day, and the distance by its remainder.
-pub record ExtinguishedFound (system year place : ℕ) (v : Answer) : Type 0 where
+pub record ExtinguishedFound (system year place : ℕ) (v : DayAnswer) : Type 0 where
   pub has_rule : HasRule system
   pub year_inside : YearInScope year
   pub k : ℕ
@@ -57,7 +57,7 @@ pub record ExtinguishedFound (system year place : ℕ) (v : Answer) : Type 0 whe
   pub says : ExtinguishedSays (rule_of system) (new_moon_remainder (constants_of system) k) v.distance
 
 -- Refused SYSTEM, then YEAR, then DAY for a place that the year lacks; or answered.
-pub data ExtinguishedOutcome (system year place : ℕ) (v : Answer) : Type 0 where
+pub data ExtinguishedOutcome (system year place : ℕ) (v : DayAnswer) : Type 0 where
   system_refused : (HasRule system → ⊥) → Refused SYSTEM v → ExtinguishedOutcome system year place v
   year_refused : HasRule system → (YearInScope year → ⊥) → Refused YEAR v → ExtinguishedOutcome system year place v
   place_refused : HasRule system

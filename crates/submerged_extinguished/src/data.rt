@@ -4,11 +4,9 @@
 // its new moon; `None` says that there is none.
 use calendar::data::RegisterDay;
 
-// The day of a qi or of a new moon, and the distance from it. `refusal` is 0 when the request was answered; refused, the
-// day is 0 and there is no distance.
+// The day of a qi or of a new moon, and the distance from it.
 #[derive(Clone, Copy)]
 pub struct Answer {
-    pub refusal: u8,
     pub day: RegisterDay,
     pub distance: Option<u8>,
 }
@@ -20,11 +18,10 @@ pub struct Extinguished {
     pub distance: Option<u8>,
 }
 
-// The extinguished days of a year: those of its `count` new moons in order, then day 0 and no distance. Refused, it
-// carries the refusal number and has none. All thirteen places are there, since `unlisted` speaks of them.
+// The extinguished days of a year: those of its `count` new moons in order, then day 0 and no distance. All thirteen
+// places are there, since `unlisted` speaks of them.
 #[derive(Clone, Copy)]
 pub struct ExtinguishedDays {
-    pub refusal: u8,
     pub count: u8,
     pub moons: [Extinguished; 13],
 }

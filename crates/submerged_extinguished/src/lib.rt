@@ -5,70 +5,54 @@
 ghost use Rattle.std.specs.Prelude.{◌≡◌};
 ghost use Rattle.submerged_extinguished.specs.Answers.{submerged_of, extinguished_days_of, extinguished_of};
 ghost use Rattle.submerged_extinguished.specs.Outcomes.{SubmergedOutcome, ExtinguishedOutcome};
+ghost use Rattle.submerged_extinguished.specs.Told.{told_day, told_moons};
 
-use blanks::{none, none_of_year};
 use data::{Answer, ExtinguishedDays};
-use reckoning::refusal::outside;
-use reckoning::refusal_numbers::{DAY, SYSTEM};
+use reckoning::refusal::{Refusal, outside};
 
-mod blanks;
 pub mod data;
 mod distances;
 mod moons;
 mod rules;
 
-// The submerged day of qi i of a year, i from 0 to 24. Refused SYSTEM, then YEAR, then STEP.
-pub fn submerged(system: u32, year: u32, i: u32) -> Answer
-    ensures { (result ≡ submerged_of system year i) × SubmergedOutcome system year i result }
+// The submerged day of qi i of a year, i from 0 to 24. Refused System, then Year, then Step.
+pub fn submerged(system: u32, year: u32, i: u32) -> Result<Answer, Refusal>
+    ensures { (told_day result ≡ submerged_of system year i) × SubmergedOutcome system year i (told_day result) }
 {
     if outside(1, rules::LAST, system) {
-        return none(SYSTEM);
+        return Err(Refusal::System);
     }
-    let qi = reckoning::qi(system, year, i);
-    let refusal = qi.refusal;
-    if refusal != 0 {
-        return none(refusal);
-    }
-    Answer {
-        refusal: 0,
+    let qi = reckoning::qi(system, year, i)?;
+    Ok(Answer {
         day: qi.day,
         distance: distances::submerged(system, qi.parts, qi.units),
-    }
+    })
 }
 
-// The extinguished days of a year. Refused SYSTEM, then YEAR.
-pub fn extinguished_days(system: u32, year: u32) -> ExtinguishedDays
-    ensures { result ≡ extinguished_days_of system year }
+// The extinguished days of a year. Refused System, then Year.
+pub fn extinguished_days(system: u32, year: u32) -> Result<ExtinguishedDays, Refusal>
+    ensures { told_moons result ≡ extinguished_days_of system year }
 {
     if outside(1, rules::LAST, system) {
-        return none_of_year(SYSTEM);
+        return Err(Refusal::System);
     }
-    let days = reckoning::days(system, year);
-    let refusal = days.refusal;
-    if refusal != 0 {
-        return none_of_year(refusal);
-    }
+    let days = reckoning::days(system, year)?;
     let count = moons::months_in(days.length);
-    moons::of_months(system, days.head, count)
+    Ok(moons::of_months(system, days.head, count))
 }
 
-// The extinguished day of the new moon at a place of a year, from 1. Refused SYSTEM, then YEAR, then DAY for a place that
+// The extinguished day of the new moon at a place of a year, from 1. Refused System, then Year, then Day for a place that
 // the year lacks.
-pub fn extinguished(system: u32, year: u32, place: u32) -> Answer
-    ensures { (result ≡ extinguished_of system year place) × ExtinguishedOutcome system year place result }
+pub fn extinguished(system: u32, year: u32, place: u32) -> Result<Answer, Refusal>
+    ensures { (told_day result ≡ extinguished_of system year place) × ExtinguishedOutcome system year place (told_day result) }
 {
-    let days = extinguished_days(system, year);
-    let refusal = days.refusal;
-    if refusal != 0 {
-        return none(refusal);
-    }
+    let days = extinguished_days(system, year)?;
     if outside(1, days.count as u32, place) {
-        return none(DAY);
+        return Err(Refusal::Day);
     }
     let moon = days.moons[place as usize - 1];
-    Answer {
-        refusal: 0,
+    Ok(Answer {
         day: moon.day,
         distance: moon.distance,
-    }
+    })
 }

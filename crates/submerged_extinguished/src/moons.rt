@@ -3,12 +3,12 @@ ghost use Rattle.std.specs.Prelude.{◌≡◌};
 ghost use Rattle.calendar.specs.Systems.{count_day, constants_of};
 ghost use Rattle.calendar.specs.ClosedForms.{month_of_day};
 ghost use Rattle.reckoning.specs.WordBounds.{MonthsInRegister};
-ghost use Rattle.submerged_extinguished.specs.Answers.{extinguished_from};
+ghost use Rattle.submerged_extinguished.specs.Answers.{unused, extinguished_from};
 ghost use Rattle.submerged_extinguished.specs.Moons.{moon_at, moon_after, extinguished_on, months_in};
+ghost use Rattle.submerged_extinguished.specs.Told.{moons_answered};
 ghost use Rattle.submerged_extinguished.specs.Rules.{HasRule, rule_of};
 ghost use Rattle.submerged_extinguished.specs.WordBounds.{HeadFits, MoonFits};
 
-use crate::blanks::unused;
 use crate::data::{Extinguished, ExtinguishedDays};
 use crate::rules;
 use crate::rules::Numbers;
@@ -19,6 +19,16 @@ use calendar::data::RegisterDay;
 pub(crate) struct Moon {
     pub day: u32,
     pub remainder: u64,
+}
+
+// A place that is not used.
+fn unused() -> Extinguished
+    ensures { result ≡ unused }
+{
+    Extinguished {
+        day: RegisterDay(0),
+        distance: None,
+    }
 }
 
 impl Numbers {
@@ -71,7 +81,7 @@ impl Numbers {
     fn extinguished_days(self, head: RegisterDay, count: usize) -> ExtinguishedDays
         requires { HeadFits self.constants head.0
             × MonthsInRegister self.constants (month_of_day self.constants (count_day self.constants head.0)) count }
-        ensures { result ≡ extinguished_from self.constants self.rule (month_of_day self.constants (count_day self.constants head.0)) count }
+        ensures { moons_answered result ≡ extinguished_from self.constants self.rule (month_of_day self.constants (count_day self.constants head.0)) count }
     {
         let mut moons = [unused(); 13];
         let mut moon = self.first_moon(head);
@@ -80,7 +90,6 @@ impl Numbers {
             moon = self.next_moon(moon);
         }
         ExtinguishedDays {
-            refusal: 0,
             count: count as u8,
             moons: moons,
         }
@@ -99,7 +108,7 @@ pub(crate) fn of_months(system: u32, head: RegisterDay, count: usize) -> Extingu
     requires { HasRule system
         × HeadFits (constants_of system) head.0
         × MonthsInRegister (constants_of system) (month_of_day (constants_of system) (count_day (constants_of system) head.0)) count }
-    ensures { result ≡ extinguished_from (constants_of system) (rule_of system) (month_of_day (constants_of system) (count_day (constants_of system) head.0)) count }
+    ensures { moons_answered result ≡ extinguished_from (constants_of system) (rule_of system) (month_of_day (constants_of system) (count_day (constants_of system) head.0)) count }
 {
     match system {
         2 => rules::jiyuan().extinguished_days(head, count),
