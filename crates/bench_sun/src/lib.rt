@@ -20,5 +20,5 @@ fn season_of(number: u32) -> Season
 pub extern "C" fn sun_amount(season: u32, days: u32) -> u32
     ensures { result ≡ amount_for season days }
 {
-    solar_inequality::amount(season_of(season), days).amount as u32
+    solar_inequality::amount(season_of(season), days).map_or(0, |amount| amount as u32)
 }

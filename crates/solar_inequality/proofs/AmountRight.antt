@@ -7,7 +7,7 @@ use native.Mathlib.Omega.{arith}
 use Rattle.calendar.specs.Systems.{guantian}
 use Rattle.calendar.proofs.Rising.{by_order}
 use Rattle.reckoning.specs.RefusalNumbers.{DAY}
-use Rattle.solar_inequality.specs.declared.data.Answer.{Answer}
+use Rattle.solar_inequality.specs.Records.{AmountAnswer}
 use Rattle.solar_inequality.specs.declared.data.Season.{Season}
 use Rattle.solar_inequality.specs.declared.data.Season.TheVariants.{Winter, Summer}
 use Rattle.solar_inequality.specs.declared.taken.Taken.{Taken}
@@ -53,7 +53,7 @@ module _ (season : Season) (x : ℕ) where
       (Outcome.answered day refl (taken_of season x) (Taking.takes season x day) (taken_says (taken_of season x) (Taking.within season x day))))
 
   -- and there is no other answer of which that holds.
-  pub answered_alone : (v : Answer) → Outcome season x v → v ≡ answer_of season x
+  pub answered_alone : (v : AmountAnswer) → Outcome season x v → v ≡ answer_of season x
   answered_alone v (Outcome.refused past refusal amount) =
       (λ j. record { refusal = refusal j; amount = amount j }) ∙ refused_past season x past
   answered_alone v (Outcome.answered day refusal t takes says) =

@@ -2,14 +2,14 @@
 use Prim.Native.Nat.{ℕ}
 use mathlib.Core.Path.{◌≡◌, refl}
 use mathlib.Core.List.{[], ◌∷◌, ◌++◌, map}
-use Rattle.solar_inequality.specs.declared.data.Answer.{Answer}
+use Rattle.solar_inequality.specs.Records.{AmountAnswer}
 use Rattle.solar_inequality.specs.declared.data.Season.TheVariants.{Winter, Summer}
 use Rattle.solar_inequality.specs.Answers.{taken_of, amount_taken, answer_of}
 
-abbrev amount : ℕ → Answer
+abbrev amount : ℕ → AmountAnswer
 amount n = record { refusal = 0; amount = n }
 
-abbrev refused : Answer
+abbrev refused : AmountAnswer
 refused = record { refusal = 7; amount = 0 }
 
 -- Day 88 is 23,996.1 and day 89 is 24,000.3; day 1 is 536.8, which is cut down.

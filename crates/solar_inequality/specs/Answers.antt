@@ -1,7 +1,7 @@
 -- What is answered of the sun's excess and shortfall, for every input: paper 02, Q-12.
 use Rattle.std.specs.Prelude.{ℕ, ◌*◌, ◌-◌, ◌/◌, cond, leb, ltb}
 use Rattle.reckoning.specs.RefusalNumbers.{DAY}
-use Rattle.solar_inequality.specs.declared.data.Answer.{Answer}
+use Rattle.solar_inequality.specs.Records.{AmountAnswer}
 use Rattle.solar_inequality.specs.declared.data.Season.{Season}
 use Rattle.solar_inequality.specs.declared.limits.Limit.{Limit}
 use Rattle.solar_inequality.specs.declared.taken.Taken.{Taken}
@@ -27,9 +27,13 @@ amount_by l x = 10_000 * (x * (2 * l.parts - x)) / (in_day * in_day * l.divisor)
 unfoldable pub amount_taken : Taken → ℕ
 amount_taken t = amount_by (limit_of t.season) t.parts
 
--- Above 182 refused, with amount 0.
-unfoldable pub answer_of : Season → ℕ → Answer
-answer_of season x =
-    cond (ltb 182 x)
-    (record { refusal = DAY; amount = 0 })
-    (record { refusal = 0; amount = amount_taken (taken_of season x) })
+abbrev pub amount_answered : ℕ → AmountAnswer
+amount_answered amount = record { refusal = 0; amount = amount }
+
+-- Refused: with amount 0.
+abbrev pub no_amount : ℕ → AmountAnswer
+no_amount refusal = record { refusal = refusal; amount = 0 }
+
+-- Above 182 refused.
+unfoldable pub answer_of : Season → ℕ → AmountAnswer
+answer_of season x = cond (ltb 182 x) (no_amount DAY) (amount_answered (amount_taken (taken_of season x)))

@@ -5,5 +5,9 @@ pub mod Limits
 pub mod Outcome
 -- What the laws ask of a limit.
 pub mod LimitHolds
+-- The papers' answer, by its number and amount.
+pub mod Records
 -- What is answered, for every input.
 pub mod Answers
+-- How what the code returns tells it.
+pub mod Told

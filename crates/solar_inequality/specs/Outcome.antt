@@ -2,7 +2,7 @@
 use Rattle.std.specs.Prelude.{ℕ, ◌+◌, ◌*◌, ◌≤◌, ◌<◌, ◌≡◌}
 use Rattle.calendar.specs.CutDown.{CutDown}
 use Rattle.reckoning.specs.RefusalNumbers.{DAY}
-use Rattle.solar_inequality.specs.declared.data.Answer.{Answer}
+use Rattle.solar_inequality.specs.Records.{AmountAnswer}
 use Rattle.solar_inequality.specs.declared.data.Season.{Season}
 use Rattle.solar_inequality.specs.declared.limits.Limit.{Limit}
 use Rattle.solar_inequality.specs.declared.taken.Taken.{Taken}
@@ -26,7 +26,7 @@ pub record AmountSays (l : Limit) (x amount : ℕ) : Type 0 where
   pub cut : CutDown (10_000 * (x * difference)) (in_day * in_day * l.divisor) amount
 
 -- "For whole days x from 0 to 182 after either solstice. Above 182: refusal 7" (DAY), with amount 0.
-pub data Outcome (season : Season) (x : ℕ) (v : Answer) : Type 0 where
+pub data Outcome (season : Season) (x : ℕ) (v : AmountAnswer) : Type 0 where
   refused : 182 < x → v.refusal ≡ DAY → v.amount ≡ 0 → Outcome season x v
   answered : x ≤ 182
       → v.refusal ≡ 0

@@ -4,9 +4,10 @@
 
 ghost use Rattle.std.specs.Prelude.{◌≡◌};
 ghost use Rattle.solar_inequality.specs.Answers.{answer_of};
+ghost use Rattle.solar_inequality.specs.Told.{told_amount};
 
-use data::{Answer, Season};
-use reckoning::refusal_numbers::DAY;
+use data::Season;
+use reckoning::refusal::Refusal;
 
 pub mod data;
 mod limits;
@@ -15,20 +16,14 @@ mod taken;
 // The last day that is answered: the half year has so many whole days.
 const LAST: u32 = 182;
 
-// The amount on a day, so many whole days after the solstice. Refused DAY past the last.
+// The excess or the shortfall on a day, so many whole days after the solstice, in ten-thousandths of a degree, cut down.
+// Refused Day past the last.
 #[tactic(auto, unfolding(crate::specs::Answers::answer_of))]
-pub fn amount(season: Season, days: u32) -> Answer
-    ensures { result ≡ answer_of season days }
+pub fn amount(season: Season, days: u32) -> Result<u16, Refusal>
+    ensures { told_amount result ≡ answer_of season days }
 {
     if LAST < days {
-        return Answer {
-            refusal: DAY,
-            amount: 0,
-        };
+        return Err(Refusal::Day);
     }
-    let taken = taken::of_day(season, days);
-    Answer {
-        refusal: 0,
-        amount: taken::amount(taken),
-    }
+    Ok(taken::amount(taken::of_day(season, days)))
 }

@@ -3,7 +3,7 @@ use Prim.Native.Nat.{ℕ}
 use mathlib.Core.Path.{◌≡◌, refl}
 use Rattle.std.specs.Prelude.{Some}
 use mathlib.Core.List.{List}
-use Rattle.solar_inequality.specs.declared.data.Answer.{Answer}
+use Rattle.solar_inequality.specs.Records.{AmountAnswer}
 use Rattle.solar_inequality.specs.declared.data.Season.{Season}
 use Rattle.solar_inequality.specs.Answers.{answer_of}
 use Rattle.text.specs.Decimal.{decimal}
@@ -21,7 +21,7 @@ module _ {b a : List ℕ} {at e : ℕ} where
   put_day_line days amount first last = put_then first refl (put_last last refl)
 
   -- The line of a day: refused and answered.
-  module _ (season : Season) (days : ℕ) {answer : Answer} (is : answer ≡ answer_of season days) where
+  module _ (season : Season) (days : ℕ) {answer : AmountAnswer} (is : answer ≡ answer_of season days) where
     pub put_refused : {rooms : ℕ} → (answer.refusal ≡ 0 → ⊥) → Puts b at rooms (refused_line answer.refusal) a e
         → Puts b at rooms (amount_line season days) a e
     unfolding amount_line

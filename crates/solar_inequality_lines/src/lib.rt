@@ -21,12 +21,10 @@ fn put_line(out: &mut [u8], at: usize, season: Season, days: u32) -> usize
     requires { at + 22 ≤ length out.old }
     ensures { Wrote out.old at (amount_line season days) out.new result × (result ≤ at + 22) }
 {
-    let answer = solar_inequality::amount(season, days);
-    let refusal = answer.refusal;
-    if refusal != 0 {
-        return text::refused(out, at, refusal);
+    match solar_inequality::amount(season, days) {
+        Ok(amount) => put_day(out, at, days, amount),
+        Err(refusal) => text::refused(out, at, refusal.number()),
     }
-    put_day(out, at, days, answer.amount)
 }
 
 // The line of a day, or that of its refusal, is put into an output where 22 bytes follow; where fewer do, the output and
