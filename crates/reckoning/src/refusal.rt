@@ -1,7 +1,7 @@
 // The refusals: paper 01, "Numbered refusals", and paper 02, Q-3, Q-4, Q-7 and Q-10 to Q-12. Each case says what is wrong,
 // as in include/chiselbrow.h; `of_` functions give the first that applies to a request by system and year. Day is told by
 // the year of a day (`closed_forms::out_of_scope`), and before the epoch by `closed_forms::before_epoch`.
-ghost use Rattle.std.specs.Prelude.{◌≡◌};
+ghost use Rattle.std.specs.Prelude.{◌≡◌, ◌*◌, ◌^◌};
 ghost use Rattle.reckoning.specs.RefusalNumbers.{number_of, month_told};
 ghost use Rattle.reckoning.specs.ComputedRefusals.{outside, out_of_years, year_refusal, step_refusal};
 ghost use Rattle.reckoning.specs.Told.{told_refusal};
@@ -37,6 +37,9 @@ pub enum Refusal {
     Time,
 }
 
+// 2^32: in an answer to C a refusal's number stands above the 32 bits of a day.
+const UNIT: u64 = 4_294_967_296;
+
 impl Refusal {
     // Its number in the papers' table.
     pub fn number(self) -> u8
@@ -56,6 +59,13 @@ impl Refusal {
             Refusal::Retired => 11,
             Refusal::Time => 12,
         }
+    }
+
+    // Its number as an answer to C has it.
+    pub fn in_answer(self) -> u64
+        ensures { result ≡ number_of self * 2 ^ 32 }
+    {
+        self.number() as u64 * UNIT
     }
 
     // What is told beside the number: the number of the year's leap month, or 0.
