@@ -8,7 +8,7 @@ use Rattle.reckoning.specs.Requests.{step_of}
 use Rattle.submerged_extinguished.specs.Answers.{submerged_by, submerged_in, extinguished_by, extinguished_from, extinguished_days_of}
 use Rattle.text.specs.Decimal.{decimal}
 use Rattle.text.specs.Piece.{word, field, fields, year, title, numbered, last_field, texts_up_to}
-use Rattle.submerged_extinguished_pages.specs.DistancePages.{line_end, distance_line, page_with, submerged_word, qi_line, qi_lines, submerged_page}
+use Rattle.submerged_extinguished_pages.specs.DistancePages.{distance_line, page_with, submerged_word, qi_line, qi_lines, submerged_page}
 use Rattle.submerged_extinguished_pages.specs.DistancePages.{extinguished_word, moon_line_at, extinguished_page}
 
 -- "submerged G 1094"
@@ -36,11 +36,11 @@ abbrev nought : List ℕ
 nought = 109 ∷ 111 ∷ 111 ∷ 110 ∷ 32 ∷ 57 ∷ 32 ∷ 50 ∷ 49 ∷ 50 ∷ 51 ∷ 52 ∷ 48 ∷ 55 ∷ 32 ∷ 48 ∷ 10 ∷ []
 
 pub submerged_lines : title submerged_word 1 1094 ++ (qi_line 1 1094 1 ++ qi_line 1 1094 2) ≡ submerged_title ++ (qi_line_lem ++ no_submerged)
-unfolding submerged_in submerged_by step_of step_refusal decimal word field year title numbered last_field line_end distance_line
+unfolding submerged_in submerged_by step_of step_refusal decimal word field year title numbered last_field distance_line
 submerged_lines = refl
 
 pub extinguished_lines : title extinguished_word 1 1094 ++ (moon_line_at (extinguished_days_of 1 1094) 1 ++ moon_line_at (extinguished_days_of 1 1101) 8) ≡ extinguished_title ++ (moon_line_lem ++ nought)
-unfolding extinguished_days_of extinguished_from extinguished_by year_refusal filled decimal word field year title numbered last_field line_end distance_line
+unfolding extinguished_days_of extinguished_from extinguished_by year_refusal filled decimal word field year title numbered last_field distance_line
 extinguished_lines = refl
 
 -- "refused 4" and "refused 5"

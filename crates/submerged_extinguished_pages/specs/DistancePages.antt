@@ -1,26 +1,20 @@
 -- The pages that the almanac prints of submerged and extinguished days: their lines, as bytes.
-use Rattle.std.specs.Prelude.{ℕ, ◌+◌, List, [], ◌∷◌, ◌++◌, get_or, Option, Some, None}
-use Rattle.submerged_extinguished.specs.declared.data.Answer.{Answer}
+use Rattle.std.specs.Prelude.{ℕ, ◌+◌, List, [], ◌∷◌, ◌++◌, get_or, Option}
 use Rattle.submerged_extinguished.specs.declared.data.Extinguished.{Extinguished}
-use Rattle.submerged_extinguished.specs.declared.data.ExtinguishedDays.{ExtinguishedDays}
+use Rattle.submerged_extinguished.specs.Records.{DayAnswer, MoonsAnswer}
 use Rattle.submerged_extinguished.specs.Answers.{unused, submerged_of, extinguished_days_of}
 use Rattle.text.specs.Piece.{field, title, numbered, last_field, told_unless, texts_up_to}
 
--- The distance, '-' for none, and the line's end.
-unfoldable pub line_end : Option ℕ → List ℕ
-line_end (Some days) = last_field (Some days)
-line_end None = last_field None
-
--- A word, a number, the day of a qi or new moon, and the distance.
+-- A word, a number, the day of a qi or new moon, and the distance, '-' for none.
 unfoldable pub distance_line : List ℕ → ℕ → ℕ → Option ℕ → List ℕ
-distance_line bytes number day distance = numbered bytes number ++ (field day ++ line_end distance)
+distance_line bytes number day distance = numbered bytes number ++ (field day ++ last_field distance)
 
 -- A page: its first line and those of its answers; or the line of its refusal.
 unfoldable pub page_with : List ℕ → ℕ → ℕ → ℕ → List ℕ → List ℕ
 page_with bytes system year refusal lines = told_unless refusal (title bytes system year ++ lines)
 
 -- "qi", its number, its day, and the distance of its submerged day.
-abbrev pub qi_told : ℕ → Answer → List ℕ
+abbrev pub qi_told : ℕ → DayAnswer → List ℕ
 qi_told i v = distance_line (113 ∷ 105 ∷ []) i v.day.0 v.distance
 
 abbrev pub qi_line : ℕ → ℕ → ℕ → List ℕ
@@ -44,10 +38,10 @@ abbrev pub moon_line : ℕ → Extinguished → List ℕ
 moon_line place moon = distance_line (109 ∷ 111 ∷ 111 ∷ 110 ∷ []) place moon.day.0 moon.distance
 
 -- That of the i-th new moon, from 0.
-abbrev pub moon_line_at : ExtinguishedDays → ℕ → List ℕ
+abbrev pub moon_line_at : MoonsAnswer → ℕ → List ℕ
 moon_line_at days i = moon_line (i + 1) (get_or days.moons i unused)
 
-unfoldable pub moon_lines : ExtinguishedDays → List ℕ
+unfoldable pub moon_lines : MoonsAnswer → List ℕ
 moon_lines days = texts_up_to (moon_line_at days) days.count
 
 -- "extinguished "

@@ -1,28 +1,29 @@
 // The pages of a year's submerged and extinguished days: a first line, and one for each qi or new moon.
-ghost use Rattle.std.specs.Prelude.{◌+◌, ◌≤◌, length};
+ghost use Rattle.std.specs.Prelude.{◌≡◌, ◌+◌, ◌≤◌, length};
 ghost use Rattle.text.specs.Wrote.{Wrote};
-ghost use Rattle.submerged_extinguished_pages.specs.DistancePages.{qi_line, qi_lines, submerged_page, moon_line, moon_lines, extinguished_page};
+ghost use Rattle.submerged_extinguished.specs.Answers.{submerged_of};
+ghost use Rattle.submerged_extinguished.specs.Told.{day_answered, moons_answered};
+ghost use Rattle.submerged_extinguished_pages.specs.DistancePages.{qi_told, qi_lines, submerged_page, moon_line, moon_lines, extinguished_page};
 
 use crate::line;
-use submerged_extinguished::data::{Extinguished, ExtinguishedDays};
+use submerged_extinguished::data::{Answer, Extinguished, ExtinguishedDays};
 
-fn qi_line(out: &mut [u8], at: usize, system: u32, year: u32, i: u32) -> usize
+fn qi_line(out: &mut [u8], at: usize, i: u32, answer: Answer) -> usize
     requires { at + 36 ≤ length out.old }
-    ensures { Wrote out.old at (qi_line system year i) out.new result × (result ≤ at + 36) }
+    ensures { Wrote out.old at (qi_told i (day_answered answer)) out.new result × (result ≤ at + 36) }
 {
-    let answer = submerged_extinguished::submerged(system, year, i);
-    let day = answer.day;
-    let distance = answer.distance;
-    line::put(out, at, b"qi", i, day, distance)
+    line::put(out, at, b"qi", i, answer.day, answer.distance)
 }
 
+// Where qi 0 is answered, so is each.
 fn qi_lines(out: &mut [u8], start: usize, system: u32, year: u32) -> usize
-    requires { start + 900 ≤ length out.old }
+    requires { (start + 900 ≤ length out.old) × ((submerged_of system year 0).refusal ≡ 0) }
     ensures { Wrote out.old start (qi_lines system year) out.new result × (result ≤ start + 900) }
 {
     let mut at = start;
     for i in 0..25 {
-        at = qi_line(out, at, system, year, i);
+        let answer = submerged_extinguished::submerged(system, year, i).unwrap();
+        at = qi_line(out, at, i, answer);
     }
     at
 }
@@ -32,12 +33,13 @@ pub(crate) fn submerged(out: &mut [u8], at: usize, system: u32, year: u32) -> us
     requires { at + 1024 ≤ length out.old }
     ensures { Wrote out.old at (submerged_page system year) out.new result × (result ≤ at + 1024) }
 {
-    let refusal = submerged_extinguished::submerged(system, year, 0).refusal;
-    if refusal != 0 {
-        return text::refused(out, at, refusal);
+    match submerged_extinguished::submerged(system, year, 0) {
+        Ok(_) => {
+            let at = text::title(out, at, b"submerged ", system, year);
+            qi_lines(out, at, system, year)
+        }
+        Err(refusal) => text::refused(out, at, refusal.number()),
     }
-    let at = text::title(out, at, b"submerged ", system, year);
-    qi_lines(out, at, system, year)
 }
 
 // The line of the new moon at a place, from 1.
@@ -45,14 +47,12 @@ fn moon_line(out: &mut [u8], at: usize, place: u32, moon: Extinguished) -> usize
     requires { at + 38 ≤ length out.old }
     ensures { Wrote out.old at (moon_line place moon) out.new result × (result ≤ at + 38) }
 {
-    let day = moon.day;
-    let distance = moon.distance;
-    line::put(out, at, b"moon", place, day, distance)
+    line::put(out, at, b"moon", place, moon.day, moon.distance)
 }
 
 fn moon_lines(out: &mut [u8], start: usize, days: ExtinguishedDays) -> usize
     requires { (start + 494 ≤ length out.old) × (days.count ≤ 13) }
-    ensures { Wrote out.old start (moon_lines days) out.new result × (result ≤ start + 494) }
+    ensures { Wrote out.old start (moon_lines (moons_answered days)) out.new result × (result ≤ start + 494) }
 {
     let mut at = start;
     for (i, moon) in days.moons[..days.count as usize].iter().enumerate() {
@@ -66,11 +66,11 @@ pub(crate) fn extinguished(out: &mut [u8], at: usize, system: u32, year: u32) ->
     requires { at + 1024 ≤ length out.old }
     ensures { Wrote out.old at (extinguished_page system year) out.new result × (result ≤ at + 1024) }
 {
-    let days = submerged_extinguished::extinguished_days(system, year);
-    let refusal = days.refusal;
-    if refusal != 0 {
-        return text::refused(out, at, refusal);
+    match submerged_extinguished::extinguished_days(system, year) {
+        Ok(days) => {
+            let at = text::title(out, at, b"extinguished ", system, year);
+            moon_lines(out, at, days)
+        }
+        Err(refusal) => text::refused(out, at, refusal.number()),
     }
-    let at = text::title(out, at, b"extinguished ", system, year);
-    moon_lines(out, at, days)
 }

@@ -94,6 +94,12 @@ put_last {room = room} {rooms = rooms} q l =
     let enough = leb-true room rooms l in
     record { wrote = λ h. (put_wrote q (omega arith), omega (arith, q.near)) }
 
+-- The line of a refusal, by the number that stands for it.
+pub put_number : {b a : List ℕ} {at rooms e number refusal : ℕ} → number ≡ refusal → Put b at 19 (refused_line number) a e
+    → leb 19 rooms ≡ true
+    → Puts b at rooms (refused_line refusal) a e
+put_number {b} {a} {at} {rooms} {e} is q l = subst (λ n. Puts b at rooms (refused_line n) a e) is (put_last q l)
+
 pub put_then : {b x m y a : List ℕ} {at room p rooms e : ℕ} → Put b at room x m p → leb room rooms ≡ true
     → Puts m p (rooms - room) y a e
     → Puts b at rooms (x ++ y) a e
