@@ -9,7 +9,7 @@ use Rattle.calendar.specs.Systems.{constants_of, years_elapsed}
 use Rattle.calendar.specs.Year.{Span, month_count}
 use Rattle.reckoning.specs.Scope.{InScope}
 use Rattle.reckoning.specs.WordedRefusals.{FirstOf}
-use Rattle.comparison.specs.declared.data.Comparison.{Comparison}
+use Rattle.comparison.specs.Answers.{ComparisonAnswer}
 use Rattle.comparison.specs.declared.data.Difference.TheVariants.{Days, FirstLacks, SecondLacks}
 use Rattle.comparison.specs.Comparisons.{comparison_refusal, comparison_of}
 use Rattle.comparison.specs.WhereSystemsDiffer.{MonthAt, NoMonthAt, SystemsDiffer, EachSays, ZerosFrom}
@@ -31,7 +31,7 @@ module _ (system year : ℕ) (s : InScope system year) (y : Span (constants_of s
   has_no_other = Months.has_no_other system year s y
 
 module _ (first second year : ℕ) (s : InScope first year) (t : InScope second year) where
-  abbrev v : Comparison
+  abbrev v : ComparisonAnswer
   v = comparison_of first second year
 
   -- Each place from the first to the thirteenth is listed exactly when the two months differ in number, leap mark or

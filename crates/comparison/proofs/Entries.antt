@@ -9,11 +9,11 @@ use lib.Seq.{get_or-append-add}
 use borrow.Author.Tests.{eq-eqb}
 use Rattle.calendar.specs.ExactlyOne.{ExactlyOne}
 use Rattle.calendar.proofs.Rising.{by_order}
-use Rattle.reckoning.specs.declared.data.Year.{Year}
+use Rattle.reckoning.specs.Answers.{YearAnswer}
 use Rattle.reckoning.specs.Requests.{year_of}
 use Rattle.reckoning.specs.Scope.{InScope}
 use Rattle.reckoning.proofs.FilledLaws.{replicate_reads}
-use Rattle.comparison.specs.declared.data.Comparison.{Comparison}
+use Rattle.comparison.specs.Answers.{ComparisonAnswer}
 use Rattle.comparison.specs.declared.data.Difference.TheVariants.{Days}
 use Rattle.comparison.specs.declared.data.Listed.{Listed}
 use Rattle.comparison.specs.Comparisons.{comparison_refusal, listed_at, places_up_to, unused, listing, no_comparison}
@@ -31,7 +31,7 @@ pub blank_zeros : (number : ℕ) → ZerosFrom (no_comparison number) 0
 blank_zeros number j h = zeros_of (replicate_reads unused 13 j)
 
 -- Two values compared.
-module _ (a b : Year) where
+module _ (a b : YearAnswer) where
   entry : (j : ℕ) → j < before a b 13 → (s : StandsAt a b 13 j)
       → get_or (listing a b).places j unused ≡ listed_at a b s.place
   unfolding listing
@@ -59,13 +59,13 @@ module _ (a b : Year) where
 
 -- The systems and the year in scope.
 module _ (first second year : ℕ) (s : InScope first year) (t : InScope second year) where
-  abbrev v : Comparison
+  abbrev v : ComparisonAnswer
   v = comparison_of first second year
 
-  abbrev a : Year
+  abbrev a : YearAnswer
   a = year_of first year
 
-  abbrev b : Year
+  abbrev b : YearAnswer
   b = year_of second year
 
   is_listing : v ≡ listing a b
@@ -155,6 +155,6 @@ module _ (first second year : ℕ) where
       each_says_here first second year (first_in_scope first second year accepted) (second_in_scope first second year accepted))
 
   -- as the promise says it
-  pub promised : {v : Comparison} → v ≡ comparison_of first second year
+  pub promised : {v : ComparisonAnswer} → v ≡ comparison_of first second year
       → (v ≡ comparison_of first second year) × EachSays first second year v
   promised is = (is, subst (EachSays first second year) (sym is) each_says)

@@ -8,7 +8,7 @@ use lib.Dec.{eqb}
 use lib.ListN.{length}
 use borrow.Author.Tests.{eq-eqb, eqb-true}
 use Rattle.calendar.proofs.Cases.{by_bool}
-use Rattle.reckoning.specs.declared.data.Year.{Year}
+use Rattle.reckoning.specs.Answers.{YearAnswer}
 use Rattle.reckoning.specs.Requests.{year_of}
 use Rattle.reckoning.specs.YearValue.{head_in, number_in, leap_in}
 use Rattle.comparison.specs.Comparisons.{comparison_refusal, same_month, is_listed, places_up_to, thirteen, listing}
@@ -16,7 +16,7 @@ use Rattle.comparison.specs.Comparisons.{no_comparison, comparison_of}
 use Rattle.comparison.proofs.Listing.{no_more}
 use Rattle.comparison.proofs.PlaceCases.{by_months, listed_both, listed_none}
 
-module _ (a : Year) where
+module _ (a : YearAnswer) where
   same_itself : (i : ℕ) → same_month a a i ≡ true
   unfolding same_month
   same_itself i =

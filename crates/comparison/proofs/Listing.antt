@@ -10,7 +10,8 @@ use lib.Seq.{set-append_seam, get_or-append_seam}
 use Rattle.std.proofs.Common.{Option, Some, None}
 use Rattle.calendar.proofs.Cases.{by_bool}
 use Rattle.calendar.proofs.Rising.{by_order}
-use Rattle.reckoning.specs.declared.data.Year.{Year}
+use Rattle.reckoning.specs.Answers.{YearAnswer}
+use Rattle.comparison.specs.Answers.{ComparisonAnswer}
 use Rattle.comparison.specs.declared.data.Difference.{Difference}
 use Rattle.comparison.specs.declared.data.Listed.{Listed}
 use Rattle.comparison.specs.Comparisons.{is_listed, difference_at, listed_at, places_up_to, unused, thirteen, listing}
@@ -28,7 +29,7 @@ thirteen_more places place h =
     ∙ sym (append_assoc places (place ∷ []) (replicate left unused))
     ∙ ap (λ n. (places ++ place ∷ []) ++ replicate n unused) (sym one_less)
 
-module _ (first second : Year) where
+module _ (first second : YearAnswer) where
   -- How many places before place i are listed: where it stands if it is listed too.
   abbrev pub before : ℕ → ℕ
   before i = length (places_up_to first second i)
@@ -132,11 +133,11 @@ module _ (first second : Year) where
       (λ l. by_order j i (λ m. absurd (omega (arith, stands_within i j m q))) (λ m. omega arith))
 
 -- The places that a loop has listed of the first n.
-pub record ListedOf (first second : Year) (n count : ℕ) (places : List Listed) : Type 0 where
+pub record ListedOf (first second : YearAnswer) (n count : ℕ) (places : List Listed) : Type 0 where
   pub count_is : count ≡ before first second n
   pub places_are : places ≡ thirteen (places_up_to first second n)
 
-module _ (first second : Year) where
+module _ (first second : YearAnswer) where
   pub listed_none_yet : {none : Listed} → none ≡ unused → ListedOf first second 0 0 (replicate 13 none)
   unfolding places_up_to
   listed_none_yet e = record { count_is = refl; places_are = ap (replicate 13) e }
@@ -178,7 +179,7 @@ module _ (first second : Year) where
             places_are = so_far.places_are ∙ ap thirteen (sym (no_more first second n e));
           }))
 
-    pub listed_all : n ≡ 13 → record { refusal = 0; count = count; places = places } ≡ listing first second
+    pub listed_all : n ≡ 13 → ◌≡◌ {A = ComparisonAnswer} (record { refusal = 0; count = count; places = places }) (listing first second)
     unfolding listing
     listed_all all =
         ap₂ (λ c p. record { refusal = 0; count = c; places = p })

@@ -16,7 +16,7 @@ use Rattle.calendar.proofs.EachSystem.{consistent}
 use Rattle.calendar.proofs.Numbers.{number_unique, mark_unique}
 use Rattle.calendar.proofs.Rising.{by_order}
 use Rattle.calendar.proofs.Spans.{span_first, span_next}
-use Rattle.reckoning.specs.declared.data.Year.{Year}
+use Rattle.reckoning.specs.Answers.{YearAnswer}
 use Rattle.reckoning.specs.Requests.{year_of}
 use Rattle.reckoning.specs.Scope.{InScope}
 use Rattle.reckoning.specs.YearValue.{head_in, number_in, leap_in, ListsMonths}
@@ -32,7 +32,7 @@ module _ (system year : ℕ) (s : InScope system year) where
   abbrev c : Constants
   c = constants_of system
 
-  abbrev months : Year
+  abbrev months : YearAnswer
   months = year_of system year
 
   pub lists : ListsMonths c (years_elapsed c year) months
@@ -124,10 +124,10 @@ module _ (system year : ℕ) (s : InScope system year) where
 
 -- The two systems.
 module _ (first second year : ℕ) (s : InScope first year) (t : InScope second year) where
-  abbrev a : Year
+  abbrev a : YearAnswer
   a = year_of first year
 
-  abbrev b : Year
+  abbrev b : YearAnswer
   b = year_of second year
 
   -- A place listed is one where they differ,

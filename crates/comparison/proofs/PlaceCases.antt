@@ -9,7 +9,7 @@ use borrow.Author.Tests.{lt-ltb, le-ltb, eqb-true, eqb-false}
 use Rattle.std.proofs.Common.{Option, Some, None}
 use Rattle.calendar.proofs.Cases.{by_bool, both}
 use Rattle.calendar.proofs.Rising.{by_order}
-use Rattle.reckoning.specs.declared.data.Year.{Year}
+use Rattle.reckoning.specs.Answers.{YearAnswer}
 use Rattle.reckoning.specs.YearValue.{head_in, number_in, leap_in}
 use Rattle.comparison.specs.declared.data.Difference.{Difference}
 use Rattle.comparison.specs.declared.data.Difference.TheVariants.{Days, FirstLacks, SecondLacks}
@@ -17,7 +17,7 @@ use Rattle.comparison.specs.declared.places.Month.{Month}
 use Rattle.comparison.specs.Comparisons.{same_month, is_listed, difference_at}
 use Rattle.comparison.specs.Months.{month_in, month_at, difference_told}
 
-module _ (a b : Year) (i : ℕ) where
+module _ (a b : YearAnswer) (i : ℕ) where
   pub listed_both : i < a.count → i < b.count → is_listed a b i ≡ not (same_month a b i)
   unfolding is_listed
   listed_both p q = simp (lt-ltb i a.count p, lt-ltb i b.count q)
@@ -84,7 +84,7 @@ all_three true y z = refl
 all_three false y z = refl
 
 -- The month of a year at an index, by what the code has of it.
-module _ (v : Year) (i : ℕ) {o : Option Month} (asked : o ≡ month_at v i) where
+module _ (v : YearAnswer) (i : ℕ) {o : Option Month} (asked : o ≡ month_at v i) where
   month_there : {m : Month} → o ≡ Some m → (i < v.count) × (m ≡ month_in v i)
   month_there is =
       by_order i v.count
@@ -98,7 +98,7 @@ module _ (v : Year) (i : ℕ) {o : Option Month} (asked : o ≡ month_at v i) wh
       (λ l. l)
 
 -- How two years differ there, by the months that the code has.
-module _ (a b : Year) (i : ℕ) {o p : Option Month} (of_first : o ≡ month_at a i) (of_second : p ≡ month_at b i) where
+module _ (a b : YearAnswer) (i : ℕ) {o p : Option Month} (of_first : o ≡ month_at a i) (of_second : p ≡ month_at b i) where
   module _ {m n : Month} (first_is : o ≡ Some m) (second_is : p ≡ Some n) where
     listed_as : {x y : Month} {same : Bool} → x ≡ m → y ≡ n
         → same ≡ (eqb x.number y.number && (eqb x.leap y.leap && eqb x.head.0 y.head.0))

@@ -8,7 +8,7 @@ use lib.IntN.{pos, neg_ℤ, ◌+ℤ◌, ◌-ℤ◌, neg_ℤ-+ℤ, neg_ℤ-neg_�
 use lib.ListN.{length, replicate, length-map}
 use borrow.Author.Tests.{eq-eqb, ne_eqb, eqb-true, eqb-false}
 use Rattle.calendar.proofs.Cases.{by_bool}
-use Rattle.reckoning.specs.declared.data.Year.{Year}
+use Rattle.reckoning.specs.Answers.{YearAnswer}
 use Rattle.reckoning.specs.RefusalNumbers.{SYSTEM}
 use Rattle.reckoning.specs.ComputedRefusals as Rules
 use Rattle.reckoning.specs.ComputedRefusals.{wrong_system, wrong_year}
@@ -36,7 +36,7 @@ days_swapped x y =
     ∙ ap (λ z. neg_ℤ (pos y) +ℤ z) (sym (neg_ℤ-neg_ℤ (pos x)))
     ∙ sym (neg_ℤ-+ℤ (pos y) (neg_ℤ (pos x)))
 
-module _ (a b : Year) where
+module _ (a b : YearAnswer) where
   same_swapped : (i : ℕ) → same_month b a i ≡ same_month a b i
   unfolding same_month
   same_swapped i = rw (eqb_swapped (number_in a i) (number_in b i), eqb_swapped (leap_in a i) (leap_in b i), eqb_swapped (head_in a i) (head_in b i)) refl
@@ -80,7 +80,7 @@ thirteen_swapped places =
     ∙ ap (λ rest. map other_way_at places ++ rest) (sym (unused_swapped (13 - length places)))
     ∙ sym (map-append other_way_at places (replicate (13 - length places) unused))
 
-listing_swapped : (a b : Year) → listing b a ≡ swapped (listing a b)
+listing_swapped : (a b : YearAnswer) → listing b a ≡ swapped (listing a b)
 unfolding listing
 listing_swapped a b =
     ap (λ places. record { refusal = 0; count = length places; places = thirteen places }) (places_swapped a b 13)

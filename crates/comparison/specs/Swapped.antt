@@ -1,6 +1,6 @@
 -- A comparison with the two systems the other way round.
 use Rattle.std.specs.Prelude.{map, neg_ℤ}
-use Rattle.comparison.specs.declared.data.Comparison.{Comparison}
+use Rattle.comparison.specs.Answers.{ComparisonAnswer}
 use Rattle.comparison.specs.declared.data.Difference.{Difference}
 use Rattle.comparison.specs.declared.data.Difference.TheVariants.{Days, FirstLacks, SecondLacks}
 use Rattle.comparison.specs.declared.data.Listed.{Listed}
@@ -15,5 +15,5 @@ abbrev pub other_way_at : Listed → Listed
 other_way_at l = record { place = l.place; difference = other_way l.difference }
 
 -- Nothing else changes.
-abbrev pub swapped : Comparison → Comparison
+abbrev pub swapped : ComparisonAnswer → ComparisonAnswer
 swapped v = record { refusal = v.refusal; count = v.count; places = map other_way_at v.places }

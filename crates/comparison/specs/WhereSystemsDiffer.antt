@@ -6,7 +6,7 @@ use Rattle.calendar.specs.Year.{Span, month_count}
 use Rattle.reckoning.specs.RefusalNumbers.{SYSTEM, YEAR}
 use Rattle.reckoning.specs.Scope.{SystemInScope, YearInScope}
 use Rattle.reckoning.specs.WordedRefusals.{Row, ◌when◌}
-use Rattle.comparison.specs.declared.data.Comparison.{Comparison}
+use Rattle.comparison.specs.Answers.{ComparisonAnswer}
 use Rattle.comparison.specs.declared.data.Difference.{Difference}
 use Rattle.comparison.specs.declared.data.Difference.TheVariants.{Days, FirstLacks, SecondLacks}
 use Rattle.comparison.specs.Comparisons.{unused}
@@ -53,22 +53,22 @@ Says first second year place FirstLacks = NoMonthAt first year place × MonthAt 
 Says first second year place SecondLacks = MonthAt first year place × NoMonthAt second year place
 
 -- The answer's i-th entry, from 0: the place that it lists, and how the systems differ there.
-abbrev pub place_in : Comparison → ℕ → ℕ
+abbrev pub place_in : ComparisonAnswer → ℕ → ℕ
 place_in v i = (get_or v.places i unused).place
 
-abbrev pub difference_in : Comparison → ℕ → Difference
+abbrev pub difference_in : ComparisonAnswer → ℕ → Difference
 difference_in v i = (get_or v.places i unused).difference
 
 -- The answer lists a place as its i-th.
-abbrev pub ListsAs : Comparison → ℕ → ℕ → Type 0
+abbrev pub ListsAs : ComparisonAnswer → ℕ → ℕ → Type 0
 ListsAs v place i = (i < v.count) × (place_in v i ≡ place)
 
 -- Each place listed has the case that it should.
-abbrev pub EachSays : ℕ → ℕ → ℕ → Comparison → Type 0
+abbrev pub EachSays : ℕ → ℕ → ℕ → ComparisonAnswer → Type 0
 EachSays first second year v = (i : ℕ) → i < v.count → Says first second year (place_in v i) (difference_in v i)
 
 -- From entry i on the answer has zeros: no place and no days.
-abbrev pub ZerosFrom : Comparison → ℕ → Type 0
+abbrev pub ZerosFrom : ComparisonAnswer → ℕ → Type 0
 ZerosFrom v i = (j : ℕ) → i ≤ j → (place_in v j ≡ 0) × (difference_in v j ≡ Days (pos 0))
 
 -- The table of refusals: either system wrong, then the year.

@@ -16,11 +16,10 @@ pub struct Listed {
     pub difference: Difference,
 }
 
-// The places where two systems differ in a year, in order: `count` of them, then zeros. Refused, it carries the refusal
-// number and lists none. All thirteen entries are there, since `thirteen_entries` and `unused_are_zeros` speak of them.
+// The places where two systems differ in a year, in order: `count` of them, then zeros. All thirteen entries are there,
+// since `thirteen_entries` and `unused_are_zeros` speak of them.
 #[derive(Clone, Copy)]
 pub struct Comparison {
-    pub refusal: u8,
     pub count: u8,
     pub places: [Listed; 13],
 }

@@ -1,7 +1,9 @@
 // The places where two years differ.
 ghost use Rattle.std.specs.Prelude.{◌≡◌, ◌<◌, pos, ◌-ℤ◌};
-ghost use Rattle.comparison.specs.Comparisons.{unused, listing, no_comparison};
+ghost use Rattle.reckoning.specs.Told.{year_answered};
+ghost use Rattle.comparison.specs.Comparisons.{unused, listing};
 ghost use Rattle.comparison.specs.Months.{month_at, difference_told};
+ghost use Rattle.comparison.specs.Told.{comparison_answered};
 
 use crate::data::{Comparison, Difference, Listed};
 use calendar::data::RegisterDay;
@@ -18,7 +20,7 @@ struct Month {
 // The month that a year has at index i, from 0: that of place i + 1.
 fn month_at(year: &Year, i: usize) -> Option<Month>
     requires { i < 13 }
-    ensures { result ≡ month_at year.now i }
+    ensures { result ≡ month_at (year_answered year.now) i }
 {
     if year.count as usize <= i {
         return None;
@@ -41,7 +43,7 @@ fn days_between(first: RegisterDay, second: RegisterDay) -> Difference
 // How the two differ there, if they do.
 fn difference_at(first: &Year, second: &Year, i: usize) -> Option<Difference>
     requires { i < 13 }
-    ensures { result ≡ difference_told first.now second.now i }
+    ensures { result ≡ difference_told (year_answered first.now) (year_answered second.now) i }
 {
     match (month_at(first, i), month_at(second, i)) {
         (Some(month), Some(other)) if month == other => None,
@@ -64,7 +66,7 @@ fn unused() -> Listed
 
 // The places where two years differ.
 pub(crate) fn list(first: &Year, second: &Year) -> Comparison
-    ensures { result ≡ listing first.now second.now }
+    ensures { comparison_answered result ≡ listing (year_answered first.now) (year_answered second.now) }
 {
     let mut places = [unused(); 13];
     let mut count = 0;
@@ -78,19 +80,7 @@ pub(crate) fn list(first: &Year, second: &Year) -> Comparison
         }
     }
     Comparison {
-        refusal: 0,
         count: count as u8,
         places: places,
-    }
-}
-
-// Nothing listed, with a refusal's number.
-pub(crate) fn none(refusal: u8) -> Comparison
-    ensures { result ≡ no_comparison refusal }
-{
-    Comparison {
-        refusal: refusal,
-        count: 0,
-        places: [unused(); 13],
     }
 }

@@ -5,9 +5,9 @@ use mathlib.Core.List.{List, [], ◌∷◌, ◌++◌, append-nil}
 use native.Mathlib.Omega.{arith}
 use lib.ListN.{length, take, get_or}
 use Rattle.std.proofs.lemmas.List.{get_or-take}
-use Rattle.reckoning.specs.declared.data.Year.{Year}
+use Rattle.reckoning.specs.Answers.{YearAnswer}
 use Rattle.reckoning.specs.Requests.{year_of}
-use Rattle.comparison.specs.declared.data.Comparison.{Comparison}
+use Rattle.comparison.specs.Answers.{ComparisonAnswer}
 use Rattle.comparison.specs.Comparisons.{unused, comparison_of}
 use Rattle.text.specs.Piece.{word, letter_of, year, line, refused_line, texts_up_to}
 use Rattle.text.specs.Put.{Put}
@@ -37,7 +37,7 @@ wrote_compare_line first second n places w near room y c =
     wrote_then w (wrote_then v (put_wrote c (omega (arith, w.same_length, v.same_length, y.near))))
 
 -- A place's line more.
-pub wrote_more_places : {b m a : List ℕ} {at p e : ℕ} (first second : Year) (compared : Comparison) (i : ℕ)
+pub wrote_more_places : {b m a : List ℕ} {at p e : ℕ} (first second : YearAnswer) (compared : ComparisonAnswer) (i : ℕ)
     → Wrote b at (texts_up_to (place_at first second compared) i) m p
     → Wrote m p (place_line first second (get_or (take compared.count compared.places) i unused)) a e
     → i < compared.count
@@ -47,16 +47,16 @@ wrote_more_places first second compared i w v more =
     (wrote_as (ap (place_line first second) (get_or-take compared.count compared.places i unused more)) v)
 
 -- The whole page: of a comparison answered, and of one refused.
-abbrev told : ℕ → ℕ → ℕ → Comparison → List ℕ
+abbrev told : ℕ → ℕ → ℕ → ComparisonAnswer → List ℕ
 told first second n v = compare_line first second n v.count ++ place_lines (year_of first n) (year_of second n) v
 
-module _ {b a : List ℕ} {at e : ℕ} {compared : Comparison} (first second n : ℕ) (is : compared ≡ comparison_of first second n) where
+module _ {b a : List ℕ} {at e : ℕ} {compared : ComparisonAnswer} (first second n : ℕ) (is : compared ≡ comparison_of first second n) where
   pub put_refused : {rooms : ℕ} → (compared.refusal ≡ 0 → ⊥) → Puts b at rooms (refused_line compared.refusal) a e
       → Puts b at rooms (comparison_page first second n) a e
   unfolding comparison_page
   put_refused h w = put_refusal (λ v. v.refusal) (told first second n) is h w
 
-  pub wrote_page : {m : List ℕ} {p : ℕ} {of_first of_second : Year} → compared.refusal ≡ 0 → of_first ≡ year_of first n → of_second ≡ year_of second n
+  pub wrote_page : {m : List ℕ} {p : ℕ} {of_first of_second : YearAnswer} → compared.refusal ≡ 0 → of_first ≡ year_of first n → of_second ≡ year_of second n
       → Wrote b at (compare_line first second n compared.count) m p
       → Wrote m p (place_lines of_first of_second compared) a e
       → Wrote b at (comparison_page first second n) a e

@@ -8,7 +8,7 @@ use lib.ListN.{length}
 use borrow.Author.Tests.{lt-ltb, le-ltb}
 use mir.Syntax.{w64}
 use mir.Val.{to_z, of_z}
-use Rattle.reckoning.specs.declared.data.Year.{Year}
+use Rattle.reckoning.specs.Answers.{YearAnswer}
 use Rattle.reckoning.specs.YearValue.{head_in, number_in, leap_in}
 use Rattle.comparison.specs.declared.data.Difference.{Difference}
 use Rattle.comparison.specs.declared.data.Difference.TheVariants.{Days, FirstLacks, SecondLacks}
@@ -23,7 +23,7 @@ use Rattle.comparison_pages.specs.ComparisonPage.{month_text, month_texts, days_
 use Rattle.comparison_pages.proofs.DaysText.{is_stored}
 
 -- A month, or none.
-module _ {b a : List ℕ} {at e rooms : ℕ} (months : Year) (i : ℕ) where
+module _ {b a : List ℕ} {at e rooms : ℕ} (months : YearAnswer) (i : ℕ) where
   pub put_no_month : months.count ≤ i → Puts b at rooms (word (32 ∷ 45 ∷ 32 ∷ 45 ∷ [])) a e
       → Puts b at rooms (month_text months i) a e
   unfolding month_text
@@ -35,7 +35,7 @@ module _ {b a : List ℕ} {at e rooms : ℕ} (months : Year) (i : ℕ) where
   unfolding month_text
   put_a_month h w = simp (lt-ltb i months.count h) w
 
-pub wrote_both : {b m a : List ℕ} {at p e : ℕ} (first second : Year) (i : ℕ) → Wrote b at (month_text first i) m p
+pub wrote_both : {b m a : List ℕ} {at p e : ℕ} (first second : YearAnswer) (i : ℕ) → Wrote b at (month_text first i) m p
     → Wrote m p (month_text second i) a e → Wrote b at (month_texts first second i) a e
 unfolding month_texts
 wrote_both first second i w v = wrote_then w v
@@ -74,7 +74,7 @@ unfolding line_end
 wrote_line_end difference w near room last = wrote_then w (put_wrote last (omega (arith, w.same_length)))
 
 -- The line of a place.
-pub wrote_place : {b m₁ m₂ a : List ℕ} {at p₁ p₂ e : ℕ} (first second : Year) (listed : Listed)
+pub wrote_place : {b m₁ m₂ a : List ℕ} {at p₁ p₂ e : ℕ} (first second : YearAnswer) (listed : Listed)
     → Put b at 16 (numbered (112 ∷ 108 ∷ 97 ∷ 99 ∷ 101 ∷ []) listed.place) m₁ p₁
     → at + 75 ≤ length b
     → Wrote m₁ p₁ (month_texts first second (listed.place - 1)) m₂ p₂

@@ -9,7 +9,7 @@ use Rattle.std.proofs.lemmas.List.{get_or-take}
 use borrow.Author.Tests.{ltb-false}
 use Rattle.calendar.proofs.Cases.{by_bool}
 use Rattle.reckoning.specs.Scope.{InScope}
-use Rattle.comparison.specs.declared.data.Comparison.{Comparison}
+use Rattle.comparison.specs.Answers.{ComparisonAnswer}
 use Rattle.comparison.specs.declared.data.Difference.{Difference}
 use Rattle.comparison.specs.declared.data.Difference.TheVariants.{Days, FirstLacks, SecondLacks}
 use Rattle.comparison.specs.Comparisons.{unused, comparison_refusal, comparison_of}
@@ -57,7 +57,7 @@ module _ (first second n : ℕ) (s : InScope first n) (t : InScope second n) whe
             };
       }
 
-pub printable : {compared : Comparison} (first second n : ℕ) → compared ≡ comparison_of first second n → compared.refusal ≡ 0
+pub printable : {compared : ComparisonAnswer} (first second n : ℕ) → compared ≡ comparison_of first second n → compared.refusal ≡ 0
     → Printable compared
 printable first second n is none =
     let accepted : comparison_refusal first second n ≡ 0 =
@@ -66,7 +66,7 @@ printable first second n is none =
     subst Printable (sym is)
     (answered first second n (first_in_scope first second n accepted) (second_in_scope first second n accepted))
 
-pub place_printable : {compared : Comparison} {i : ℕ} → Printable compared → i < compared.count
+pub place_printable : {compared : ComparisonAnswer} {i : ℕ} → Printable compared → i < compared.count
     → PlacePrintable (get_or (take compared.count compared.places) i unused)
 place_printable {compared} {i} p h =
     subst PlacePrintable (sym (get_or-take compared.count compared.places i unused h)) (p.place i h)

@@ -1,9 +1,9 @@
 -- The page that the almanac prints for a comparison: its lines, as bytes.
 use Rattle.std.specs.Prelude.{ℕ, suc, ◌-◌, cond, List, [], ◌∷◌, ◌++◌, ℤ, pos, negsuc, get_or}
-use Rattle.reckoning.specs.declared.data.Year.{Year}
+use Rattle.reckoning.specs.Answers.{YearAnswer}
 use Rattle.reckoning.specs.Requests.{year_of}
 use Rattle.reckoning.specs.YearValue.{head_in, number_in, leap_in}
-use Rattle.comparison.specs.declared.data.Comparison.{Comparison}
+use Rattle.comparison.specs.Answers.{ComparisonAnswer}
 use Rattle.comparison.specs.declared.data.Difference.{Difference}
 use Rattle.comparison.specs.declared.data.Difference.TheVariants.{Days, FirstLacks, SecondLacks}
 use Rattle.comparison.specs.declared.data.Listed.{Listed}
@@ -20,13 +20,13 @@ unfoldable pub compare_line : ℕ → ℕ → ℕ → ℕ → List ℕ
 compare_line first second n places = line_start first ++ (year second n ++ line [] (places ∷ []))
 
 -- The month at index i, from 0: its number, '*' directly after it if leap, and its head; " - -" where there is none.
-unfoldable pub month_text : Year → ℕ → List ℕ
+unfoldable pub month_text : YearAnswer → ℕ → List ℕ
 month_text months i =
     cond (has_month months i)
     (month (number_in months i) (leap_in months i) ++ field (head_in months i))
     (word (32 ∷ 45 ∷ 32 ∷ 45 ∷ []))
 
-unfoldable pub month_texts : Year → Year → ℕ → List ℕ
+unfoldable pub month_texts : YearAnswer → YearAnswer → ℕ → List ℕ
 month_texts first second i = month_text first i ++ month_text second i
 
 -- A space and a number of days, '-' directly before it where negative.
@@ -44,16 +44,16 @@ unfoldable pub line_end : Difference → List ℕ
 line_end difference = difference_text difference ++ word newline
 
 -- "place", its number, the month of each system, and how they differ.
-unfoldable pub place_line : Year → Year → Listed → List ℕ
+unfoldable pub place_line : YearAnswer → YearAnswer → Listed → List ℕ
 place_line first second listed =
     numbered (112 ∷ 108 ∷ 97 ∷ 99 ∷ 101 ∷ []) listed.place
     ++ (month_texts first second (listed.place - 1) ++ line_end listed.difference)
 
 -- The i-th line of a place, from 0.
-abbrev pub place_at : Year → Year → Comparison → ℕ → List ℕ
+abbrev pub place_at : YearAnswer → YearAnswer → ComparisonAnswer → ℕ → List ℕ
 place_at first second compared i = place_line first second (get_or compared.places i unused)
 
-unfoldable pub place_lines : Year → Year → Comparison → List ℕ
+unfoldable pub place_lines : YearAnswer → YearAnswer → ComparisonAnswer → List ℕ
 place_lines first second compared = texts_up_to (place_at first second compared) compared.count
 
 -- The page of a comparison, or the line of its refusal.

@@ -1,6 +1,6 @@
 -- Places that can be told: they have numbers from 1 to 13, and their days, in either direction, are of 32 bits.
 use Rattle.std.specs.Prelude.{ℕ, ◌^◌, ◌≤◌, ◌<◌, nat_abs, get_or}
-use Rattle.comparison.specs.declared.data.Comparison.{Comparison}
+use Rattle.comparison.specs.Answers.{ComparisonAnswer}
 use Rattle.comparison.specs.declared.data.Difference.{Difference}
 use Rattle.comparison.specs.declared.data.Difference.TheVariants.{Days, FirstLacks, SecondLacks}
 use Rattle.comparison.specs.declared.data.Listed.{Listed}
@@ -16,6 +16,6 @@ pub record PlacePrintable (listed : Listed) : Type 0 where
   pub to_thirteenth : listed.place ≤ 13
   pub small_days : SmallDays listed.difference
 
-pub record Printable (compared : Comparison) : Type 0 where
+pub record Printable (compared : ComparisonAnswer) : Type 0 where
   pub thirteen_at_most : compared.count ≤ 13
   pub place : (i : ℕ) → i < compared.count → PlacePrintable (get_or compared.places i unused)

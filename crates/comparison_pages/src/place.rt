@@ -1,5 +1,6 @@
 // The line of a place. Each function asks for the room that its longest text takes, a number taking ten digits.
 ghost use Rattle.std.specs.Prelude.{◌≡◌, ◌+◌, ◌^◌, ◌≤◌, ◌<◌, nat_abs, length};
+ghost use Rattle.reckoning.specs.Told.{year_answered};
 ghost use Rattle.text.specs.Wrote.{Wrote};
 ghost use Rattle.comparison_pages.specs.Printable.{SmallDays, PlacePrintable};
 ghost use Rattle.comparison_pages.specs.ComparisonPage.{month_text, month_texts, days_text, difference_text, line_end, place_line};
@@ -10,7 +11,7 @@ use reckoning::data::Year;
 // The month at index i, from 0.
 fn month(out: &mut [u8], at: usize, months: Year, i: usize) -> usize
     requires { (at + 23 ≤ length out.old) × (i < 13) }
-    ensures { Wrote out.old at (month_text months i) out.new result × (result ≤ at + 23) }
+    ensures { Wrote out.old at (month_text (year_answered months) i) out.new result × (result ≤ at + 23) }
 {
     if months.count as usize <= i {
         return text::word(out, at, b" - -");
@@ -24,7 +25,7 @@ fn month(out: &mut [u8], at: usize, months: Year, i: usize) -> usize
 
 fn both_months(out: &mut [u8], at: usize, first: Year, second: Year, i: usize) -> usize
     requires { (at + 46 ≤ length out.old) × (i < 13) }
-    ensures { Wrote out.old at (month_texts first second i) out.new result × (result ≤ at + 46) }
+    ensures { Wrote out.old at (month_texts (year_answered first) (year_answered second) i) out.new result × (result ≤ at + 46) }
 {
     let at = month(out, at, first, i);
     month(out, at, second, i)
@@ -64,7 +65,7 @@ fn line_end(out: &mut [u8], at: usize, ending: Difference) -> usize
 // The line of a place that is listed.
 pub(crate) fn line(out: &mut [u8], at: usize, first: Year, second: Year, listed: Listed) -> usize
     requires { (at + 75 ≤ length out.old) × PlacePrintable listed }
-    ensures { Wrote out.old at (place_line first second listed) out.new result × (result ≤ at + 75) }
+    ensures { Wrote out.old at (place_line (year_answered first) (year_answered second) listed) out.new result × (result ≤ at + 75) }
 {
     let place = listed.place;
     let ending = listed.difference;

@@ -1,6 +1,8 @@
 // The page of a comparison: what is compared, and the places. It takes 34 bytes for the first line and 75 for each of
 // thirteen places, at most.
 ghost use Rattle.std.specs.Prelude.{◌+◌, ◌≤◌, length};
+ghost use Rattle.reckoning.specs.Told.{year_answered};
+ghost use Rattle.comparison.specs.Told.{comparison_answered};
 ghost use Rattle.text.specs.Wrote.{Wrote};
 ghost use Rattle.comparison_pages.specs.Printable.{Printable};
 ghost use Rattle.comparison_pages.specs.ComparisonPage.{line_start, compare_line, place_lines, comparison_page};
@@ -37,8 +39,8 @@ fn place_lines(
     second: Year,
     compared: Comparison,
 ) -> usize
-    requires { (start + 975 ≤ length out.old) × Printable compared }
-    ensures { Wrote out.old start (place_lines first second compared) out.new result × (result ≤ start + 975) }
+    requires { (start + 975 ≤ length out.old) × Printable (comparison_answered compared) }
+    ensures { Wrote out.old start (place_lines (year_answered first) (year_answered second) (comparison_answered compared)) out.new result × (result ≤ start + 975) }
 {
     let mut at = start;
     for listed in &compared.places[..compared.count as usize] {
@@ -52,18 +54,19 @@ pub(crate) fn put(out: &mut [u8], at: usize, first: u32, second: u32, year: u32)
     requires { at + 1024 ≤ length out.old }
     ensures { Wrote out.old at (comparison_page first second year) out.new result × (result ≤ at + 1024) }
 {
-    let compared = compare(first, second, year);
-    let refusal = compared.refusal;
-    if refusal != 0 {
-        return text::refused(out, at, refusal);
-    }
+    let compared = match compare(first, second, year) {
+        Err(refusal) => return text::refused(out, at, refusal.number()),
+        Ok(compared) => compared,
+    };
     let count = compared.count;
     let at = compare_line(out, at, first, second, year, count);
     // Most years list nothing, and then no month is asked for again.
     if count == 0 {
         return at;
     }
-    let of_first = reckoning::year(first, year);
-    let of_second = reckoning::year(second, year);
-    place_lines(out, at, of_first, of_second, compared)
+    match (reckoning::year(first, year), reckoning::year(second, year)) {
+        (Ok(of_first), Ok(of_second)) => place_lines(out, at, of_first, of_second, compared),
+        // Not reached: a comparison that was answered has both years.
+        _ => at,
+    }
 }

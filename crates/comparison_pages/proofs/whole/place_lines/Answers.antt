@@ -2,6 +2,8 @@ use Prim.Native.Nat.{◌<◌}
 use mathlib.Core.Path.{◌≡◌}
 use native.Mathlib.Omega.{arith}
 use borrow.Author.Rules.{rules}
+use Rattle.reckoning.specs.Told.{year_answered}
+use Rattle.comparison.specs.Told.{comparison_answered}
 use Rattle.text.proofs.Writing.{wrote_no_texts, wrote_all_texts}
 use Rattle.comparison_pages.specs.ComparisonPage.{place_at, place_lines}
 use Rattle.comparison_pages.proofs.PageText.{wrote_more_places}
@@ -18,11 +20,11 @@ pub loop-listed-preserved : goal.loop-listed-preserved
 loop-listed-preserved c =
     let args = c.args in
     let more : c.loop-listed.listed-index < args.compared.count = search rules in
-    (omega arith, wrote_more_places args.first args.second args.compared _ c.loop-listed.invariant.1 c.line-at.ensures.0 more)
+    (omega arith, wrote_more_places (year_answered args.first) (year_answered args.second) (comparison_answered args.compared) _ c.loop-listed.invariant.1 c.line-at.ensures.0 more)
 
 pub returns : goal.returns
 unfolding place_lines
 returns c =
     let args = c.args in
     let all : c.loop-listed.listed-index ≡ args.compared.count = search rules in
-    (wrote_all_texts (place_at args.first args.second args.compared) _ _ all c.loop-listed.invariant.1, omega arith)
+    (wrote_all_texts (place_at (year_answered args.first) (year_answered args.second) (comparison_answered args.compared)) _ _ all c.loop-listed.invariant.1, omega arith)
