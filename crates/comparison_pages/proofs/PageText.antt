@@ -51,10 +51,12 @@ abbrev told : ℕ → ℕ → ℕ → ComparisonAnswer → List ℕ
 told first second n v = compare_line first second n v.count ++ place_lines (year_of first n) (year_of second n) v
 
 module _ {b a : List ℕ} {at e : ℕ} {compared : ComparisonAnswer} (first second n : ℕ) (is : compared ≡ comparison_of first second n) where
-  pub put_refused : {rooms : ℕ} → (compared.refusal ≡ 0 → ⊥) → Puts b at rooms (refused_line compared.refusal) a e
+  pub put_refused : {refusal rooms : ℕ} → refusal ≡ compared.refusal → (compared.refusal ≡ 0 → ⊥)
+      → Puts b at rooms (refused_line refusal) a e
       → Puts b at rooms (comparison_page first second n) a e
   unfolding comparison_page
-  put_refused h w = put_refusal (λ v. v.refusal) (told first second n) is h w
+  put_refused {rooms = rooms} number h w =
+      put_refusal (λ v. v.refusal) (told first second n) is h (subst (λ r. Puts b at rooms (refused_line r) a e) number w)
 
   pub wrote_page : {m : List ℕ} {p : ℕ} {of_first of_second : YearAnswer} → compared.refusal ≡ 0 → of_first ≡ year_of first n → of_second ≡ year_of second n
       → Wrote b at (compare_line first second n compared.count) m p

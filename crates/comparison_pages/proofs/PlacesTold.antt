@@ -7,8 +7,16 @@ use lib.IntN.{ℤ, pos, negsuc, nat_abs, ◌+ℤ◌, pos-ne-negsuc}
 use lib.ListN.{take, get_or}
 use Rattle.std.proofs.lemmas.List.{get_or-take}
 use borrow.Author.Tests.{ltb-false}
+use Rattle.std.proofs.Common.{Result, Err}
 use Rattle.calendar.proofs.Cases.{by_bool}
+use Rattle.reckoning.specs.declared.data.Year.{Year}
+use Rattle.reckoning.specs.declared.refusal.Refusal.{Refusal}
+use Rattle.reckoning.specs.Requests.{year_of}
 use Rattle.reckoning.specs.Scope.{InScope}
+use Rattle.reckoning.specs.Told.{told_year}
+use Rattle.reckoning.proofs.MonthsRight.{year_carries}
+use Rattle.reckoning.proofs.RefusalCases.{in_scope}
+use Rattle.reckoning.proofs.ToldCases.{number_not_0}
 use Rattle.comparison.specs.Answers.{ComparisonAnswer}
 use Rattle.comparison.specs.declared.data.Difference.{Difference}
 use Rattle.comparison.specs.declared.data.Difference.TheVariants.{Days, FirstLacks, SecondLacks}
@@ -31,6 +39,12 @@ size_most x y (negsuc n) e =
     by_bool (ltb x (suc n))
     (λ l. absurd (pos-ne-negsuc y (suc n - suc x) (e ∙ simp l)))
     (λ l. omega (arith, ltb-false x (suc n) l))
+
+-- A year in scope is not refused.
+not_refused : (system n : ℕ) → InScope system n → {r : Result Year Refusal} {e : Refusal} → told_year r ≡ year_of system n → r ≡ Err e → ⊥
+not_refused system n s {e = e} told is_error =
+    number_not_0 e
+    (ap (λ v. v.refusal) (sym (ap told_year is_error) ∙ told) ∙ year_carries system n ∙ in_scope system n s)
 
 module _ (first second n : ℕ) (s : InScope first n) (t : InScope second n) where
   small : (place : ℕ) (d : Difference) → Says first second n place d → SmallDays d
@@ -57,14 +71,21 @@ module _ (first second n : ℕ) (s : InScope first n) (t : InScope second n) whe
             };
       }
 
-pub printable : {compared : ComparisonAnswer} (first second n : ℕ) → compared ≡ comparison_of first second n → compared.refusal ≡ 0
-    → Printable compared
-printable first second n is none =
-    let accepted : comparison_refusal first second n ≡ 0 =
-    sym (carries first second n) ∙ sym (ap (λ v. v.refusal) is) ∙ none
-    in
-    subst Printable (sym is)
-    (answered first second n (first_in_scope first second n accepted) (second_in_scope first second n accepted))
+module _ {compared : ComparisonAnswer} (first second n : ℕ) (is : compared ≡ comparison_of first second n) (none : compared.refusal ≡ 0) where
+  accepted : comparison_refusal first second n ≡ 0
+  accepted = sym (carries first second n) ∙ sym (ap (λ v. v.refusal) is) ∙ none
+
+  pub printable : Printable compared
+  printable =
+      subst Printable (sym is)
+      (answered first second n (first_in_scope first second n accepted) (second_in_scope first second n accepted))
+
+  -- It has the years of both systems.
+  pub first_there : {r : Result Year Refusal} {e : Refusal} → told_year r ≡ year_of first n → r ≡ Err e → ⊥
+  first_there told is_error = not_refused first n (first_in_scope first second n accepted) told is_error
+
+  pub second_there : {r : Result Year Refusal} {e : Refusal} → told_year r ≡ year_of second n → r ≡ Err e → ⊥
+  second_there told is_error = not_refused second n (second_in_scope first second n accepted) told is_error
 
 pub place_printable : {compared : ComparisonAnswer} {i : ℕ} → Printable compared → i < compared.count
     → PlacePrintable (get_or (take compared.count compared.places) i unused)

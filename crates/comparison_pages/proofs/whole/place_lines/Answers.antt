@@ -14,7 +14,7 @@ pub loop-listed-init : goal.loop-listed-init
 loop-listed-init c = (omega arith, wrote_no_texts _ (omega arith))
 
 pub line-at-requires : goal.line-at-requires
-line-at-requires c = (search rules, search (rules, place_printable))
+line-at-requires c = (search rules, place_printable {compared = comparison_answered c.args.compared} c.requires.1 (search rules))
 
 pub loop-listed-preserved : goal.loop-listed-preserved
 loop-listed-preserved c =
