@@ -1,8 +1,11 @@
 -- What an export answers and writes, by the tests of the code.
 use Prim.Native.Nat.{ℕ, ◌*◌, ◌^◌, ◌≤◌, ◌<◌}
 use mathlib.Core.Path.{◌≡◌, sym, ap, ◌∙◌}
+use mathlib.Core.Bool.{not, cond}
 use mathlib.Core.List.{List, ◌++◌}
 use native.Mathlib.Omega.{arith}
+use native.Mathlib.Decide.{ℕ_discrete}
+use lib.Dec.{eqb}
 use lib.ListN.{length, drop}
 use borrow.Author.Tests.{lt-ltb, le-ltb, le-leb, lt-leb, eq-eqb, ne_eqb}
 use Rattle.reckoning.specs.RefusalNumbers.{SYSTEM, TIME, OUTPUT}
@@ -43,6 +46,13 @@ module _ (system parts units room : ℕ) where
   pub units_cut : refusal ≡ 0 → (units ≡ 0 → ⊥) → 1 ≡ export_answer system parts units room
   unfolding export_answer
   units_cut accepted some = simp (eq-eqb refusal 0 accepted, ne_eqb units 0 some) (omega (arith, accepted))
+
+  pub cut_told : refusal ≡ 0 → cond (not (eqb units 0)) 1 0 ≡ export_answer system parts units room
+  cut_told accepted =
+      elim (ℕ_discrete units 0) [
+        | yes none_lem ↦ simp (eq-eqb units 0 none_lem) (whole_parts accepted none_lem)
+        | no some ↦ simp (ne_eqb units 0 some) (units_cut accepted some)
+      ]
 
   told : (number : ℕ) → refusal ≡ number → (number ≡ 0 → ⊥) → 2 ^ 32 * number ≡ export_answer system parts units room
   unfolding export_answer

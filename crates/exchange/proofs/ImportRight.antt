@@ -5,26 +5,28 @@ use mathlib.Core.Logic.{◌⊎◌, inl, inr, ⊎_elim}
 use mathlib.Core.List.{List}
 use native.Mathlib.Omega.{arith}
 use native.Mathlib.Decide.{ℕ_discrete}
+use Rattle.std.specs.Prelude.{Result, Ok, Err}
 use lib.Dec.{T}
 use lib.ListN.{length}
 use lib.Ieee.{Float, binary64}
 use lib.Ieee.Bits.{of_bits-fits}
 use borrow.Author.Tests.{lt-ltb, le-ltb, eq-eqb, ne_eqb}
 use Rattle.calendar.proofs.Rising.{by_order}
-use Rattle.reckoning.specs.Requests.{as_register_day}
-use Rattle.reckoning.specs.RefusalNumbers.{KIND, LENGTH, SYSTEM, TIME}
+use Rattle.reckoning.specs.declared.refusal.Refusal.{Refusal}
+use Rattle.reckoning.specs.declared.refusal.Refusal.TheVariants as Refused
+use Rattle.reckoning.specs.RefusalNumbers.{number_of}
 use Rattle.reckoning.specs.WordedRefusals.{FirstOf}
+use Rattle.reckoning.proofs.ToldCases.{number_some}
 use Rattle.day_fraction.specs.Settling.{is_fraction, count_of}
 use Rattle.day_fraction.proofs.Ends.{settled_fraction, settled_none}
 use Rattle.day_fraction.proofs.NoFractions.{by_fraction, never_both}
 use Rattle.day_fraction.proofs.Largest.{count_is_largest}
 use Rattle.exchange.specs.declared.data.Time.TheVariants.{Fraction, Parts}
 use Rattle.exchange.specs.declared.data.Imported.{Imported}
-use Rattle.exchange.specs.declared.data.Imported.TheVariants.{Refused, Row}
 use Rattle.exchange.specs.Systems.{HasExchange, parts_in_day}
 use Rattle.exchange.specs.Row.{day_field, tag_field, pattern_field, fraction_field, parts_field, filler_field}
 use Rattle.exchange.specs.ExchangeRefusals.{ZeroFiller, WrongTime, import_refusals}
-use Rattle.exchange.specs.Import.{answer_with, fraction_answer, parts_answer, import_of, import_answer, refusal_told}
+use Rattle.exchange.specs.Import.{row_taken, answer_with, fraction_answer, parts_answer, import_of, import_answer, refusal_told}
 use Rattle.exchange.specs.Outcomes.{ImportOutcome}
 use Rattle.exchange.proofs.DayParts.{by_exchange}
 use Rattle.exchange.proofs.Importing.{wrong_length, no_exchange, tagged_1, tagged_2, no_tag}
@@ -37,13 +39,13 @@ module _ (system : ℕ) (s : List ℕ) where
   f = fraction_field s
 
   -- With what is told to C.
-  abbrev Ends : Imported → Type 0
+  abbrev Ends : Result Imported Refusal → Type 0
   Ends i = ImportOutcome system s i (import_answer i)
 
-  refused : (number : ℕ) → 0 < number → FirstOf (import_refusals system s) number → Ends (Refused number)
-  refused number some first =
-      let told : number * 2 ^ 32 ≡ import_answer (Refused number) = omega arith in
-      subst (ImportOutcome system s (Refused number)) told (ImportOutcome.refused number some first)
+  refused : (refusal : Refusal) → FirstOf (import_refusals system s) (number_of refusal) → Ends (Err refusal)
+  refused refusal first =
+      let told : number_of refusal * 2 ^ 32 ≡ import_answer (Err refusal) = omega arith in
+      subst (ImportOutcome system s (Err refusal)) told (ImportOutcome.refused refusal (number_some refusal) first)
 
   -- A row of thirteen bytes, by a system that has an exchange.
   module _ (long : length s ≡ 13) (has : HasExchange system) (some : 0 < D) (few : D < 2 ^ 16) where
@@ -51,9 +53,9 @@ module _ (system : ℕ) (s : List ℕ) where
     not_0 z = omega arith
 
     -- With a tag, it is refused TIME or by none.
-    refused_time : (tag_field s ≡ 1) ⊎ (tag_field s ≡ 2) → WrongTime D s → Ends (Refused TIME)
+    refused_time : (tag_field s ≡ 1) ⊎ (tag_field s ≡ 2) → WrongTime D s → Ends (Err Refused.Time)
     refused_time tagged wrong =
-        refused TIME (omega arith)
+        refused Refused.Time
         (inr (λ v. v long, inr (λ v. v has, inr (λ v. v tagged, inl (refl, wrong)))))
 
     by_none : (tag_field s ≡ 1) ⊎ (tag_field s ≡ 2) → (WrongTime D s → ⊥) → FirstOf (import_refusals system s) 0
@@ -69,9 +71,9 @@ module _ (system : ℕ) (s : List ℕ) where
         subst Ends (ap (answer_with (day_field s) (Fraction f)) (settled_none D f (λ t. never_both f t none)))
         (refused_time (inl tag) (inl (tag, none))))
       where
-        told_fraction : T (is_fraction f) → Ends (Row (as_register_day (day_field s)) (Fraction f) (count_of D f))
+        told_fraction : T (is_fraction f) → Ends (Ok (row_taken (day_field s) (Fraction f) (count_of D f)))
         told_fraction t =
-            let row = Row (as_register_day (day_field s)) (Fraction f) (count_of D f) in
+            let row : Result Imported Refusal = Ok (row_taken (day_field s) (Fraction f) (count_of D f)) in
             let told : day_field s + count_of D f * 2 ^ 40 + 1 * 2 ^ 56 ≡ import_answer row = omega arith in
             subst (ImportOutcome system s row) told
             (ImportOutcome.fraction
@@ -106,9 +108,9 @@ module _ (system : ℕ) (s : List ℕ) where
             (λ b. ⊎_elim (λ past. omega arith) (λ some. some (omega arith, omega arith, omega arith, omega arith, omega arith, omega arith)) b.1)
             wrong
 
-        told_parts : filler_field s ≡ 0 → parts_field s < D → Ends (Row (as_register_day (day_field s)) (Parts (parts_field s)) (parts_field s))
+        told_parts : filler_field s ≡ 0 → parts_field s < D → Ends (Ok (row_taken (day_field s) (Parts (parts_field s)) (parts_field s)))
         told_parts zero below =
-            let row = Row (as_register_day (day_field s)) (Parts (parts_field s)) (parts_field s) in
+            let row : Result Imported Refusal = Ok (row_taken (day_field s) (Parts (parts_field s)) (parts_field s)) in
             let told : day_field s + parts_field s * 2 ^ 40 + 2 * 2 ^ 56 ≡ import_answer row = omega arith in
             subst (ImportOutcome system s row) told (ImportOutcome.parts (by_none (inr tag) (right zero below)) tag)
 
@@ -117,7 +119,7 @@ module _ (system : ℕ) (s : List ℕ) where
   import_ends =
       elim (ℕ_discrete (length s) 13) [
         | no other ↦
-            subst Ends (wrong_length system s other) (refused LENGTH (omega arith) (inl (refl, other)))
+            subst Ends (wrong_length system s other) (refused Refused.Length (inl (refl, other)))
         | yes long ↦
             by_exchange system
             (λ has some few.
@@ -129,18 +131,18 @@ module _ (system : ℕ) (s : List ℕ) where
                     | yes two ↦ subst Ends (tagged_2 system s long not_0 not_1 two) (parts_end long has some few two)
                     | no not-2 ↦
                         subst Ends (no_tag system s long not_0 not_1 not-2)
-                        (refused KIND (omega arith)
+                        (refused Refused.Kind
                         (inr (λ v. v long, inr (λ v. v has, inl (refl, ⊎_elim not_1 not-2)))))
                   ]
             ])
             (λ never z.
             subst Ends (no_exchange system s long z)
-            (refused SYSTEM (omega arith) (inr (λ v. v long, inl (refl, never)))))
+            (refused Refused.System (inr (λ v. v long, inl (refl, never)))))
       ]
 
 -- So the number told is that of the first refusal that applies, and 0 where none does.
-told_first : {system : ℕ} {s : List ℕ} {i : Imported} {answer : ℕ} → ImportOutcome system s i answer → FirstOf (import_refusals system s) (refusal_told i)
-told_first (ImportOutcome.refused number some first) = first
+told_first : {system : ℕ} {s : List ℕ} {i : Result Imported Refusal} {answer : ℕ} → ImportOutcome system s i answer → FirstOf (import_refusals system s) (refusal_told i)
+told_first (ImportOutcome.refused refusal some first) = first
 told_first (ImportOutcome.fraction first tag count largest) = first
 told_first (ImportOutcome.parts first tag) = first
 

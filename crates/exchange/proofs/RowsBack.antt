@@ -8,18 +8,16 @@ use lib.Ieee.Bits.{of_bits-to_bits, to_bits-lt}
 use lib.ListN.{length, take}
 use lib.Dec.{T}
 use Rattle.little_endian.proofs.ReadBack.{read_back_4, read_back_8}
-use Rattle.reckoning.specs.Requests.{as_register_day}
 use Rattle.day_fraction.specs.Fraction.{fraction_of}
 use Rattle.day_fraction.specs.Settling.{settled_of}
-use Rattle.std.specs.Prelude.{Some}
+use Rattle.std.specs.Prelude.{Some, Ok}
 use Rattle.day_fraction.proofs.ComesBack.{fraction_float, fraction_of_day, comes_back}
 use Rattle.day_fraction.proofs.Ends.{settled_fraction}
 use Rattle.exchange.specs.declared.data.Time.TheVariants.{Fraction}
-use Rattle.exchange.specs.declared.data.Imported.TheVariants.{Row}
 use Rattle.exchange.specs.Systems.{HasExchange, parts_in_day}
 use Rattle.exchange.specs.Row.{day_field, fraction_field, row_of}
 use Rattle.exchange.specs.Export.{export_refusal, exported_into}
-use Rattle.exchange.specs.Import.{answer_with, answer_of, import_of}
+use Rattle.exchange.specs.Import.{row_taken, answer_with, answer_of, import_of}
 use Rattle.exchange.proofs.DayParts.{exchange_inside}
 use Rattle.exchange.proofs.Importing.{tagged_1}
 use Rattle.exchange.proofs.Exporting.{written}
@@ -48,7 +46,7 @@ module _ (system day parts : ℕ) (has : HasExchange system) (below : parts < pa
   settles = sym (settled_fraction D f some (fraction_of_day D some few parts below)) ∙ ap Some (comes_back D some few parts below)
 
   -- "Every exported fraction comes back as its own count."
-  pub row_comes_back : import_of system (row_of day f) ≡ Row (as_register_day day) (Fraction f) parts
+  pub row_comes_back : import_of system (row_of day f) ≡ Ok (row_taken day (Fraction f) parts)
   row_comes_back =
       sym (tagged_1 system (row_of day f) refl (λ z. omega (arith, some)) refl)
       ∙ ap₂ (λ r x. answer_of D r (Fraction x)) (day_back day f small) (fraction_back day f (fraction_float D some few parts below))
@@ -56,6 +54,6 @@ module _ (system day parts : ℕ) (has : HasExchange system) (below : parts < pa
 
   -- So it is with the first thirteen bytes of the output, whatever the output held before.
   pub export_comes_back : (before : List ℕ) → export_refusal system parts (length before) ≡ 0
-      → import_of system (take 13 (exported_into system day parts before)) ≡ Row (as_register_day day) (Fraction f) parts
+      → import_of system (take 13 (exported_into system day parts before)) ≡ Ok (row_taken day (Fraction f) parts)
   export_comes_back before accepted =
       ap (λ l. import_of system (take 13 l)) (sym (written system day parts before accepted {row = row_of day f} refl)) ∙ row_comes_back

@@ -1,7 +1,9 @@
 -- What an export answers and writes, for every input and output.
-use Rattle.std.specs.Prelude.{ℕ, ◌+◌, ◌*◌, ◌^◌, Bool, cond, not, ◌&&◌, List, [], ◌∷◌, ◌++◌, ltb, leb, eqb, length, drop}
+use Rattle.std.specs.Prelude.{ℕ, ◌+◌, ◌*◌, ◌^◌, Bool, cond, not, ◌&&◌, List, [], ◌∷◌, ◌++◌, ltb, leb, eqb, length, drop, Result}
 use Rattle.reckoning.specs.ComputedRefusals.{◌if◌, first}
-use Rattle.reckoning.specs.RefusalNumbers.{SYSTEM, TIME, OUTPUT}
+use Rattle.reckoning.specs.declared.refusal.Refusal.{Refusal}
+use Rattle.reckoning.specs.RefusalNumbers.{SYSTEM, TIME, OUTPUT, number_of}
+use Rattle.reckoning.specs.Told.{told}
 use Rattle.day_fraction.specs.Fraction.{fraction_of}
 use Rattle.exchange.specs.Systems.{parts_in_day}
 use Rattle.exchange.specs.Row.{row_of}
@@ -19,6 +21,10 @@ is_exported system parts room = eqb (export_refusal system parts room) 0
 unfoldable pub export_answer : ℕ → ℕ → ℕ → ℕ → ℕ
 export_answer system parts units room =
     2 ^ 32 * export_refusal system parts room + cond (is_exported system parts room && not (eqb units 0)) 1 0
+
+-- How it tells what the code returns: whether small units were cut off, or a refusal.
+abbrev pub export_told : Result Bool Refusal → ℕ
+export_told r = told (λ cut. cond cut 1 0) (λ e. 2 ^ 32 * number_of e) r
 
 -- The output afterwards: the row in the first 13 bytes and the rest left; where refused, as it was.
 unfoldable pub exported_into : ℕ → ℕ → ℕ → List ℕ → List ℕ

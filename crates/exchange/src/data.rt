@@ -1,4 +1,4 @@
-// What the import of a row answers.
+// What the import of a row gives.
 use calendar::data::RegisterDay;
 
 // A time of day until it is settled: a fraction of the day, or a count of parts.
@@ -8,10 +8,10 @@ pub enum Time {
     Parts(u16),
 }
 
-// A row that is refused has the number of its refusal, and neither day nor time. Another has its day, its time as it
-// came, and the count of parts that the time settles to.
+// A row's day, its time as it came, and the count of parts that the time settles to.
 #[derive(Clone, Copy)]
-pub enum Imported {
-    Refused(u8),
-    Row(RegisterDay, Time, u16),
+pub struct Imported {
+    pub day: RegisterDay,
+    pub time: Time,
+    pub count: u16,
 }

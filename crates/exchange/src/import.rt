@@ -8,7 +8,7 @@ use crate::data::{Imported, Time};
 use crate::row::{self, Row};
 use crate::systems::parts_in_day;
 use calendar::data::RegisterDay;
-use reckoning::refusal_numbers::{KIND, LENGTH, REFUSAL_UNIT, SYSTEM, TIME};
+use reckoning::refusal::Refusal;
 
 // The count that a time settles to.
 fn settle(in_day: u16, time: Time) -> Option<u16>
@@ -21,13 +21,11 @@ fn settle(in_day: u16, time: Time) -> Option<u16>
 }
 
 // A day with its time, settled.
-fn answer(in_day: u16, day: RegisterDay, time: Time) -> Imported
+fn answer(in_day: u16, day: RegisterDay, time: Time) -> Result<Imported, Refusal>
     ensures { result ≡ answer_of in_day day.0 time }
 {
-    match settle(in_day, time) {
-        Some(count) => Imported::Row(day, time, count),
-        None => Imported::Refused(TIME),
-    }
+    let count = settle(in_day, time).ok_or(Refusal::Time)?;
+    Ok(Imported { day, time, count })
 }
 
 // The bit pattern of infinity, and the bit of the sign. Without it, a pattern above that of infinity is not a number.
@@ -42,7 +40,7 @@ fn is_number(pattern: u64) -> bool
 }
 
 // A row whose time is a fraction.
-fn fraction_row(in_day: u16, row: &Row) -> Imported
+fn fraction_row(in_day: u16, row: &Row) -> Result<Imported, Refusal>
     ensures { result ≡ fraction_answer in_day row.now }
 {
     let pattern = row::time(row);
@@ -53,36 +51,34 @@ fn fraction_row(in_day: u16, row: &Row) -> Imported
             Time::Fraction(f64::from_bits(pattern)),
         );
     }
-    Imported::Refused(TIME)
+    Err(Refusal::Time)
 }
 
 // A row whose time is a count of parts, in the first two of its bytes; the others are to be zero. Where one is not, the
 // time as one number is above any count.
-fn parts_row(in_day: u16, row: &Row) -> Imported
+fn parts_row(in_day: u16, row: &Row) -> Result<Imported, Refusal>
     ensures { result ≡ parts_answer in_day row.now }
 {
     let time = row::time(row);
     if time < in_day as u64 {
         return answer(in_day, row::day(row), Time::Parts(time as u16));
     }
-    Imported::Refused(TIME)
+    Err(Refusal::Time)
 }
 
 // Imports a row by a system.
 #[tactic(auto, unfolding(crate::specs::Import::import_of))]
-pub fn import(system: u64, row: &[u8]) -> Imported
+pub fn import(system: u64, row: &[u8]) -> Result<Imported, Refusal>
     ensures { result ≡ import_of system row.now }
 {
     let Ok(row) = <&Row>::try_from(row) else {
-        return Imported::Refused(LENGTH);
+        return Err(Refusal::Length);
     };
-    let Some(in_day) = parts_in_day(system) else {
-        return Imported::Refused(SYSTEM);
-    };
+    let in_day = parts_in_day(system).ok_or(Refusal::System)?;
     match row[4] {
         row::FRACTION => fraction_row(in_day, row),
         row::PARTS => parts_row(in_day, row),
-        _ => Imported::Refused(KIND),
+        _ => Err(Refusal::Kind),
     }
 }
 
@@ -106,9 +102,9 @@ pub fn chiselbrow_import(system: u64, row: &[u8]) -> u64
     ensures { result ≡ import_answer (import_of system row.now) }
 {
     match import(system, row) {
-        Imported::Refused(refusal) => refusal as u64 * REFUSAL_UNIT,
-        Imported::Row(day, time, count) => {
-            day.0 as u64 + count as u64 * COUNT_UNIT + tag(time) as u64 * TAG_UNIT
+        Ok(row) => {
+            row.day.0 as u64 + row.count as u64 * COUNT_UNIT + tag(row.time) as u64 * TAG_UNIT
         }
+        Err(refusal) => refusal.in_answer(),
     }
 }
