@@ -1,44 +1,45 @@
 -- The text of a page from its pieces.
 use Prim.Native.Nat.{ℕ, ◌+◌, ◌*◌, ◌≤◌, ◌<◌}
-use mathlib.Core.Path.{◌≡◌, refl, subst, ap, ap₂}
+use mathlib.Core.Path.{◌≡◌, refl, subst, ap, ap₂, ◌∙◌}
 use Rattle.std.specs.Prelude.{Option}
 use mathlib.Core.List.{List, [], ◌∷◌, ◌++◌}
 use native.Mathlib.Omega.{arith}
 use lib.ListN.{length, take, get_or}
 use Rattle.std.proofs.lemmas.List.{get_or-take}
-use Rattle.reckoning.specs.declared.data.Days.{Days}
+use Rattle.reckoning.specs.Answers.{DaysAnswer, SheetAnswer, YearAnswer}
 use Rattle.reckoning.specs.declared.data.Sheet.{Sheet}
-use Rattle.reckoning.specs.declared.data.Year.{Year}
+use Rattle.reckoning.specs.Told.{sheet_answered}
 use Rattle.reckoning.specs.Requests.{qi_of, year_of, sheet_of, days_of}
 use Rattle.reckoning.specs.YearValue.{head_in}
 use Rattle.text.specs.Piece.{word, field, year, month, numbered, line, last_field, refused_line, texts_up_to}
 use Rattle.text.specs.Put.{Put}
 use Rattle.text.specs.Wrote.{Wrote}
 use Rattle.text.proofs.Writing.{wrote_as, wrote_then, wrote_one_more}
-use Rattle.text.proofs.Putting.{Puts, put_wrote, put_then, put_three, all_put, put_refusal, wrote_told}
+use Rattle.text.proofs.Putting.{Puts, put_wrote, put_then, put_three, all_put}
+use Rattle.pages.proofs.Ending.{told_refused, told_answered}
 use Rattle.pages.specs.declared.months.ToldMonth.{ToldMonth}
 use Rattle.pages.specs.StepLines.{step_lines}
 use Rattle.pages.specs.Page.{qi_word, year_line, held_qi, told_month, month_start, month_line, month_lines, next_line}
 use Rattle.pages.specs.Page.{name_at, sheet_names, names_line, month_at, year_lines, page_of}
 
 -- A loop's texts, one more.
-pub wrote_month_more : {b m a : List ℕ} {at p e : ℕ} {month : ToldMonth} (months : Year) (i : ℕ) → month ≡ told_month months i
+pub wrote_month_more : {b m a : List ℕ} {at p e : ℕ} {month : ToldMonth} (months : YearAnswer) (i : ℕ) → month ≡ told_month months i
     → Wrote b at (texts_up_to (month_at months) i) m p
     → Wrote m p (month_line month) a e
     → Wrote b at (texts_up_to (month_at months) (i + 1)) a e
 wrote_month_more months i is w v = wrote_one_more (month_at months) i w (wrote_as (ap month_line is) v)
 
 pub wrote_name_more : {b m a : List ℕ} {start p e : ℕ} (sheet : Sheet) (days i : ℕ)
-    → Wrote b start (texts_up_to (name_at sheet) i) m p
+    → Wrote b start (texts_up_to (name_at (sheet_answered sheet)) i) m p
     → Put m p 11 (field (get_or (take days sheet.names) i 0)) a e
     → start + 4224 ≤ length b
     → p ≤ start + 11 * i
     → i < length (take days sheet.names)
     → length (take days sheet.names) ≡ days
     → days ≤ 384
-    → Wrote b start (texts_up_to (name_at sheet) (i + 1)) a e
+    → Wrote b start (texts_up_to (name_at (sheet_answered sheet)) (i + 1)) a e
 wrote_name_more sheet days i w v room near more all most =
-    wrote_one_more (name_at sheet) i w
+    wrote_one_more (name_at (sheet_answered sheet)) i w
     (wrote_as (ap field (get_or-take days sheet.names i 0 (omega arith))) (put_wrote v (omega (arith, w.same_length))))
 
 -- Lines told by their own definitions, a name by its day.
@@ -49,7 +50,7 @@ module _ {b a : List ℕ} {at e rooms : ℕ} where
   unfolding year_line
   put_year_line system n months days w = w
 
-  pub put_next : (months : Year)
+  pub put_next : (months : YearAnswer)
       → Puts b at rooms (line (110 ∷ 101 ∷ 120 ∷ 116 ∷ []) (head_in months months.count ∷ [])) a e
       → Puts b at rooms (next_line months) a e
   unfolding next_line
@@ -83,7 +84,7 @@ put_month_line {m₃ = m₃} {a = a} {p₃ = p₃} {e = e} m is start near days 
     }
 
 -- The line of the names.
-pub put_names : {b m₁ m₂ a : List ℕ} {at p₁ p₂ e : ℕ} (sheet : Sheet) (days : ℕ)
+pub put_names : {b m₁ m₂ a : List ℕ} {at p₁ p₂ e : ℕ} (sheet : SheetAnswer) (days : ℕ)
     → Put b at 5 (word (110 ∷ 97 ∷ 109 ∷ 101 ∷ 115 ∷ [])) m₁ p₁
     → Wrote m₁ p₁ (sheet_names sheet days) m₂ p₂
     → p₂ ≤ p₁ + 4224
@@ -100,7 +101,7 @@ put_names sheet days first names near last =
     }
 
 -- The whole page: of a year answered, and of one refused.
-pub wrote_year_lines : {b m₁ m₂ m₃ m₄ a : List ℕ} {at p₁ p₂ p₃ p₄ e : ℕ} (system n : ℕ) (months : Year) (days : ℕ) (sheet : Sheet)
+pub wrote_year_lines : {b m₁ m₂ m₃ m₄ a : List ℕ} {at p₁ p₂ p₃ p₄ e : ℕ} (system n : ℕ) (months : YearAnswer) (days : ℕ) (sheet : SheetAnswer)
     → Wrote b at (year_line system n months.count days) m₁ p₁
     → Wrote m₁ p₁ (step_lines qi_word (qi_of system n) 25) m₂ p₂
     → Wrote m₂ p₂ (month_lines months) m₃ p₃
@@ -111,19 +112,16 @@ unfolding year_lines
 wrote_year_lines system n months days sheet w₁ w₂ w₃ w₄ w₅ =
     wrote_then w₁ (wrote_then w₂ (wrote_then w₃ (wrote_then w₄ w₅)))
 
-abbrev told : ℕ → ℕ → Year → List ℕ
+abbrev told : ℕ → ℕ → YearAnswer → List ℕ
 told system n v = year_lines system n v (days_of system n).length (sheet_of system n)
 
-module _ {b a : List ℕ} {at e : ℕ} {months : Year} (system n : ℕ) (is : months ≡ year_of system n) where
-  pub put_refused : {rooms : ℕ} → (months.refusal ≡ 0 → ⊥) → Puts b at rooms (refused_line months.refusal) a e
-      → Puts b at rooms (page_of system n) a e
+module _ (system n : ℕ) {months : YearAnswer} (is : months ≡ year_of system n) where
+  pub page_refused : (months.refusal ≡ 0 → ⊥) → page_of system n ≡ refused_line months.refusal
   unfolding page_of
-  put_refused h w = put_refusal (λ v. v.refusal) (told system n) is h w
+  page_refused some = told_refused (λ v. v.refusal) (told system n) is some
 
-  pub wrote_page : {days : Days} {sheet : Sheet} → months.refusal ≡ 0 → days ≡ days_of system n → sheet ≡ sheet_of system n
-      → Wrote b at (year_lines system n months days.length sheet) a e
-      → Wrote b at (page_of system n) a e
+  pub page_answered : {days : DaysAnswer} {sheet : SheetAnswer} → months.refusal ≡ 0 → days ≡ days_of system n → sheet ≡ sheet_of system n
+      → year_lines system n months days.length sheet ≡ page_of system n
   unfolding page_of
-  wrote_page h days-is sheet-is w =
-      wrote_told (λ v. v.refusal) (told system n) is h
-      (wrote_as (ap₂ (λ d s. year_lines system n months d.length s) days-is sheet-is) w)
+  page_answered none days-is sheet-is =
+      ap₂ (λ d s. year_lines system n months d.length s) days-is sheet-is ∙ told_answered (λ v. v.refusal) (told system n) is none

@@ -4,7 +4,7 @@ use mathlib.Core.Path.{◌≡◌, ap}
 use mathlib.Core.List.{List}
 use native.Mathlib.Omega.{arith}
 use lib.ListN.{length}
-use Rattle.reckoning.specs.declared.data.Moment.{Moment}
+use Rattle.reckoning.specs.Answers.{MomentAnswer}
 use Rattle.text.specs.Piece.{line}
 use Rattle.text.specs.Wrote.{Wrote}
 use Rattle.text.specs.Put.{Put}
@@ -12,7 +12,7 @@ use Rattle.text.proofs.Writing.{wrote_as}
 use Rattle.text.proofs.Putting.{put_wrote}
 use Rattle.pages.specs.StepLines.{moment_numbers, step_line}
 
-pub wrote_step : {b a numbers : List ℕ} {at e room : ℕ} (word : List ℕ) (i : ℕ) (m : Moment) → numbers ≡ moment_numbers i m
+pub wrote_step : {b a numbers : List ℕ} {at e room : ℕ} (word : List ℕ) (i : ℕ) (m : MomentAnswer) → numbers ≡ moment_numbers i m
     → Put b at room (line word numbers) a e
     → room ≤ 62
     → at + 62 ≤ length b

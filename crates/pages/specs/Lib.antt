@@ -5,5 +5,7 @@ pub mod StepLines
 pub mod Page
 -- What is printed of pentads.
 pub mod PentadPages
+-- How the writing of a page ends.
+pub mod PageEnds
 -- Months that can be told by their places.
 pub mod Printable

@@ -2,8 +2,7 @@
 use Rattle.std.specs.Prelude.{ℕ, ◌+◌, ◌-◌, Option, None, Some, cond, List, [], ◌∷◌, ◌++◌, eqb, get_or}
 use Rattle.calendar.specs.SixtyDayName.{name_of}
 use Rattle.calendar.specs.Month.{none_held}
-use Rattle.reckoning.specs.declared.data.Sheet.{Sheet}
-use Rattle.reckoning.specs.declared.data.Year.{Year}
+use Rattle.reckoning.specs.Answers.{YearAnswer, SheetAnswer}
 use Rattle.reckoning.specs.Requests.{qi_of, year_of, sheet_of, days_of}
 use Rattle.reckoning.specs.YearValue.{head_in, number_in, leap_in, remainder_in, held_in}
 use Rattle.text.specs.Piece.{word, field, year, month, numbered, line, last_field, told_unless, texts_up_to}
@@ -16,7 +15,7 @@ year_line system n months days = word (121 ∷ 101 ∷ 97 ∷ 114 ∷ 32 ∷ [])
 
 -- What is told of the month at index i, from 0: its place from 1, number and leap mark, its head with its name, how many
 -- days it has, the remainder of its new moon, and the index of the middle qi that it holds, or the mark of none.
-unfoldable pub told_month : Year → ℕ → ToldMonth
+unfoldable pub told_month : YearAnswer → ℕ → ToldMonth
 told_month months i =
     let head = head_in months i in
     record {
@@ -46,25 +45,25 @@ month_line m =
     month_start m ++ (field m.days ++ (field m.remainder ++ last_field (held_qi m.held)))
 
 -- The line of the month at index i.
-abbrev pub month_at : Year → ℕ → List ℕ
+abbrev pub month_at : YearAnswer → ℕ → List ℕ
 month_at months i = month_line (told_month months i)
 
-unfoldable pub month_lines : Year → List ℕ
+unfoldable pub month_lines : YearAnswer → List ℕ
 month_lines months = texts_up_to (month_at months) months.count
 
 -- "next" and the head of the next year.
-unfoldable pub next_line : Year → List ℕ
+unfoldable pub next_line : YearAnswer → List ℕ
 next_line months = line (110 ∷ 101 ∷ 120 ∷ 116 ∷ []) (head_in months months.count ∷ [])
 
 -- The name of day i, from 0.
-abbrev pub name_at : Sheet → ℕ → List ℕ
+abbrev pub name_at : SheetAnswer → ℕ → List ℕ
 name_at sheet i = field (get_or sheet.names i 0)
 
-unfoldable pub sheet_names : Sheet → ℕ → List ℕ
+unfoldable pub sheet_names : SheetAnswer → ℕ → List ℕ
 sheet_names sheet days = texts_up_to (name_at sheet) days
 
 -- "names" and the names of a year's days.
-unfoldable pub names_line : Sheet → ℕ → List ℕ
+unfoldable pub names_line : SheetAnswer → ℕ → List ℕ
 names_line sheet days = word (110 ∷ 97 ∷ 109 ∷ 101 ∷ 115 ∷ []) ++ (sheet_names sheet days ++ word (10 ∷ []))
 
 -- "qi"
@@ -72,7 +71,7 @@ abbrev pub qi_word : List ℕ
 qi_word = 113 ∷ 105 ∷ []
 
 -- The lines of a year that has these months and so many days, named on the sheet. Its qi are those from 0 to 24.
-unfoldable pub year_lines : ℕ → ℕ → Year → ℕ → Sheet → List ℕ
+unfoldable pub year_lines : ℕ → ℕ → YearAnswer → ℕ → SheetAnswer → List ℕ
 year_lines system year months days sheet =
     year_line system year months.count days
     ++ (step_lines qi_word (qi_of system year) 25 ++ (month_lines months ++ (next_line months ++ names_line sheet days)))

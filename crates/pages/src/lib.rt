@@ -5,17 +5,32 @@
 // the place stay as they are.
 #![tactic(auto)]
 
+ghost use Rattle.std.specs.Prelude.{◌≡◌, MatchResult};
+ghost use Rattle.reckoning.specs.RefusalNumbers.{number_of};
+ghost use Rattle.text.specs.Piece.{refused_line};
 ghost use Rattle.text.specs.Put.{Put};
 ghost use Rattle.pages.specs.Page.{page_of};
 ghost use Rattle.pages.specs.PentadPages.{pentads_page, pentad_line};
 
 use calendar::data::RegisterDay;
+use reckoning::refusal::Refusal;
 
 mod months;
 mod names;
 mod pentads;
 mod steps;
 mod whole;
+
+// The end of what was put, or of the line of its refusal.
+fn or_refused(out: &mut [u8], at: usize, end: Result<usize, Refusal>) -> usize
+    ensures { MatchResult end (λ end. (out.new ≡ out.old) × (result ≡ end))
+        (λ refusal. Put out.old at 19 (refused_line (number_of refusal)) out.new result) }
+{
+    match end {
+        Ok(end) => end,
+        Err(refusal) => text::refused(out, at, refusal.number()),
+    }
+}
 
 // The page of a year.
 pub fn page(out: &mut [u8], at: usize, system: u32, year: u32) -> usize
@@ -24,7 +39,8 @@ pub fn page(out: &mut [u8], at: usize, system: u32, year: u32) -> usize
     if text::is_short(out.len(), at, 8192) {
         return at;
     }
-    whole::put(out, at, system, year)
+    let end = whole::put(out, at, system, year);
+    or_refused(out, at, end)
 }
 
 // The page of a year's pentads.
@@ -34,7 +50,8 @@ pub fn pentads_page(out: &mut [u8], at: usize, system: u32, year: u32) -> usize
     if text::is_short(out.len(), at, 4608) {
         return at;
     }
-    pentads::page(out, at, system, year)
+    let end = pentads::page(out, at, system, year);
+    or_refused(out, at, end)
 }
 
 // The line of the pentad in force at the end of a day.
@@ -44,5 +61,6 @@ pub fn pentad_line(out: &mut [u8], at: usize, system: u32, day: RegisterDay) -> 
     if text::is_short(out.len(), at, 35) {
         return at;
     }
-    pentads::line(out, at, system, day)
+    let end = pentads::line(out, at, system, day);
+    or_refused(out, at, end)
 }

@@ -1,5 +1,6 @@
 // The lines of a year's months, and of the next year's head.
 ghost use Rattle.std.specs.Prelude.{◌≡◌, ◌+◌, ◌≤◌, ◌<◌, length};
+ghost use Rattle.reckoning.specs.Told.{year_answered};
 ghost use Rattle.text.specs.Wrote.{Wrote};
 ghost use Rattle.pages.specs.Printable.{Printable};
 ghost use Rattle.pages.specs.Page.{held_qi, told_month, month_start, month_line, month_lines, next_line};
@@ -22,8 +23,8 @@ pub(crate) struct ToldMonth {
 
 // The month at index i, from 0.
 fn told(months: Year, i: usize) -> ToldMonth
-    requires { Printable months × (i < months.count) }
-    ensures { result ≡ told_month months i }
+    requires { Printable (year_answered months) × (i < months.count) }
+    ensures { result ≡ told_month (year_answered months) i }
 {
     let head = months.heads[i];
     let next = months.heads[i + 1];
@@ -77,8 +78,8 @@ fn month_line(out: &mut [u8], at: usize, month: ToldMonth) -> usize
 }
 
 pub(crate) fn lines(out: &mut [u8], start: usize, months: Year) -> usize
-    requires { (start + 1092 ≤ length out.old) × Printable months }
-    ensures { Wrote out.old start (month_lines months) out.new result × (result ≤ start + 1092) }
+    requires { (start + 1092 ≤ length out.old) × Printable (year_answered months) }
+    ensures { Wrote out.old start (month_lines (year_answered months)) out.new result × (result ≤ start + 1092) }
 {
     let mut at = start;
     for i in 0..months.count as usize {
@@ -88,8 +89,8 @@ pub(crate) fn lines(out: &mut [u8], start: usize, months: Year) -> usize
 }
 
 pub(crate) fn next_line(out: &mut [u8], at: usize, months: Year) -> usize
-    requires { (at + 16 ≤ length out.old) × Printable months }
-    ensures { Wrote out.old at (next_line months) out.new result × (result ≤ at + 16) }
+    requires { (at + 16 ≤ length out.old) × Printable (year_answered months) }
+    ensures { Wrote out.old at (next_line (year_answered months)) out.new result × (result ≤ at + 16) }
 {
     let count = months.count as usize;
     let head = months.heads[count];

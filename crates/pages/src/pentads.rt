@@ -1,20 +1,19 @@
 // The page of a year's pentads, and the line of the pentad in force on a day.
 ghost use Rattle.std.specs.Prelude.{◌+◌, ◌≤◌, length};
 ghost use Rattle.text.specs.Wrote.{Wrote};
+ghost use Rattle.pages.specs.PageEnds.{Ends};
 ghost use Rattle.pages.specs.PentadPages.{pentads_page, in_force_line, pentad_line};
 
 use crate::steps;
 use calendar::data::RegisterDay;
+use reckoning::refusal::Refusal;
 
-// The pentads of a year, or the line of its refusal.
-pub(crate) fn page(out: &mut [u8], at: usize, system: u32, year: u32) -> usize
+// The pentads of a year. A refusal of its first is one of the year.
+pub(crate) fn page(out: &mut [u8], at: usize, system: u32, year: u32) -> Result<usize, Refusal>
     requires { at + 4608 ≤ length out.old }
-    ensures { Wrote out.old at (pentads_page system year) out.new result × (result ≤ at + 4608) }
+    ensures { Ends out.old at 4608 (pentads_page system year) out.new result }
 {
-    let refusal = reckoning::pentad(system, year, 0).refusal;
-    if refusal != 0 {
-        return text::refused(out, at, refusal);
-    }
+    reckoning::pentad(system, year, 0)?;
     let at = text::title(out, at, b"pentads ", system, year);
     steps::lines(
         out,
@@ -37,15 +36,16 @@ fn in_force_line(out: &mut [u8], at: usize, day: u32, system: u32, year: u32, pe
     text::line(out, at, b"", &numbers)
 }
 
-// The pentad in force on a day, or the line of its refusal.
-pub(crate) fn line(out: &mut [u8], at: usize, system: u32, day: RegisterDay) -> usize
+// The pentad in force on a day.
+pub(crate) fn line(
+    out: &mut [u8],
+    at: usize,
+    system: u32,
+    day: RegisterDay,
+) -> Result<usize, Refusal>
     requires { at + 35 ≤ length out.old }
-    ensures { Wrote out.old at (pentad_line system day.0) out.new result × (result ≤ at + 35) }
+    ensures { Ends out.old at 35 (pentad_line system day.0) out.new result }
 {
-    let found = reckoning::pentad_in_force(system, day);
-    let refusal = found.refusal;
-    if refusal != 0 {
-        return text::refused(out, at, refusal);
-    }
-    in_force_line(out, at, day.0, system, found.year, found.pentad)
+    let found = reckoning::pentad_in_force(system, day)?;
+    Ok(in_force_line(out, at, day.0, system, found.year, found.pentad))
 }

@@ -1,5 +1,6 @@
 use native.Mathlib.Omega.{arith}
 use Rattle.text.proofs.Writing.{wrote_no_texts, wrote_all_texts}
+use Rattle.reckoning.specs.Told.{year_answered}
 use Rattle.pages.specs.Page.{month_at, month_lines}
 use Rattle.pages.proofs.PageText.{wrote_month_more}
 use Rattle.pages.proofs.months.lines.Goals as goal
@@ -12,4 +13,4 @@ loop-i-preserved c = (omega arith, search wrote_month_more)
 
 pub returns : goal.returns
 unfolding month_lines
-returns c = (wrote_all_texts (month_at c.args.months) _ _ (omega arith) c.loop-i.invariant.1, omega arith)
+returns c = (wrote_all_texts (month_at (year_answered c.args.months)) _ _ (omega arith) c.loop-i.invariant.1, omega arith)

@@ -1,5 +1,7 @@
-use mathlib.Core.Path.{ap}
+use mathlib.Core.Path.{ap, ◌∙◌}
 use native.Mathlib.Omega.{arith}
+use Rattle.std.specs.Prelude.{Ok, Err}
+use Rattle.reckoning.proofs.ToldCases.{number_not_0}
 use Rattle.text.proofs.Writing.{wrote_as, wrote_no_texts, wrote_one_more, wrote_all_texts}
 use Rattle.pages.specs.StepLines.{step_line, step_at, step_lines}
 use Rattle.pages.proofs.steps.lines.Goals as goal
@@ -13,10 +15,15 @@ loop-i-preserved g c =
       omega arith,
       λ moments told.
           wrote_one_more (step_at word moments) _ (c.loop-i.invariant.1 moments told)
-          (wrote_as (ap (step_line word c.loop-i.i) (told _ _ c.moment.ensures)) c.line-at.ensures.0),
+          (wrote_as (ap (step_line word c.loop-i.i) (told _ (Ok _) c.in_ok-moment.ensures)) c.line-at.ensures.0),
     )
 
-pub returns-clause-told : goal.returns-clause-told
+pub returns-in_err-moment : goal.returns-in_err-moment
+returns-in_err-moment g c = λ moments told answered.
+    let is = ap (λ m. m.refusal) (told _ (Err _) c.in_err-moment.ensures) in
+    absurd (number_not_0 _ (is ∙ answered _ (omega arith)))
+
+pub returns : goal.returns
 unfolding step_lines
-returns-clause-told g c = λ moments told.
-    wrote_all_texts (step_at c.args.word.now moments) _ _ (omega arith) (c.loop-i.invariant.1 moments told)
+returns g c = λ moments told answered.
+    (wrote_all_texts (step_at c.args.word.now moments) _ _ (omega arith) (c.loop-i.invariant.1 moments told), omega arith)
