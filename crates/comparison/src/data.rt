@@ -17,7 +17,7 @@ pub struct Listed {
 }
 
 // The places where two systems differ in a year, in order: `count` of them, then zeros. All thirteen entries are there,
-// since `thirteen_entries` and `unused_are_zeros` speak of them.
+// since `thirteen_entries` and `unused_are_zeros` speak of them; and a comparison is Copy, which an ArrayVec is not.
 #[derive(Clone, Copy)]
 pub struct Comparison {
     pub count: u8,
