@@ -23,28 +23,17 @@ returns-in_err-at c =
 pub lines-at-requires : goal.lines-at-requires
 lines-at-requires c =
     let qi = qi_written (goal.at.lines-at-requires c).In_ok-at in
-    (omega (arith, qi.1, qi.0.same_length, c.year_line-at.ensures.0.same_length), c.requires.2)
+    (omega (arith, qi.1, qi.0.same_length), c.requires.2)
 
 pub next_line-at-requires : goal.next_line-at-requires
 next_line-at-requires c =
-    let qi = qi_written (goal.at.next_line-at-requires c).In_ok-at in (
-      omega (arith, qi.1, qi.0.same_length, c.year_line-at.ensures.0.same_length, c.lines-at.ensures.0.same_length),
-      c.requires.2,
-    )
+    let qi = qi_written (goal.at.next_line-at-requires c).In_ok-at in
+    (omega (arith, qi.1, qi.0.same_length), c.requires.2)
 
 pub names_line-requires : goal.names_line-requires
 names_line-requires c =
-    let qi = qi_written (goal.at.names_line-requires c).In_ok-at in (
-      omega (
-        arith,
-        qi.1,
-        qi.0.same_length,
-        c.year_line-at.ensures.0.same_length,
-        c.lines-at.ensures.0.same_length,
-        c.next_line-at.ensures.0.same_length,
-      ),
-      c.requires.3,
-    )
+    let qi = qi_written (goal.at.names_line-requires c).In_ok-at in
+    (omega (arith, qi.1, qi.0.same_length), c.requires.3)
 
 pub returns : goal.returns
 returns c =
