@@ -16,10 +16,11 @@ abbrev pub settled_time : ℕ → Time → Option ℕ
 settled_time in_day (Fraction fraction) = settled_of in_day fraction
 settled_time in_day (Parts parts) = cond (ltb parts in_day) (Some parts) None
 
+-- What is taken of a row: its day, its time as it came and the count that the time settles to;
 abbrev pub row_taken : ℕ → Time → ℕ → Imported
 row_taken day time count = record { day = as_register_day day; time = time; count = count }
 
--- A day with its time as it came and the count that it settles to; refused Time where it settles to none.
+-- refused Time where it settles to none.
 abbrev pub answer_with : ℕ → Time → Option ℕ → Result Imported Refusal
 answer_with day time None = Err Refused.Time
 answer_with day time (Some count) = Ok (row_taken day time count)
