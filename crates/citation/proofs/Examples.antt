@@ -11,7 +11,7 @@ use Rattle.calendar.specs.Qi.{qi}
 use Rattle.calendar.specs.Month.{new_moon, month_head}
 use Rattle.calendar.specs.ClosedForms.{first_month}
 use Rattle.calendar.specs.LeapMonth.{last_leap}
-use Rattle.reckoning.specs.declared.data.Moment.{Moment}
+use Rattle.reckoning.specs.Answers.{MomentAnswer}
 use Rattle.reckoning.specs.Filled.{filled}
 use Rattle.reckoning.specs.ComputedRefusals.{year_refusal, step_refusal}
 use Rattle.reckoning.specs.Requests.{step_of, qi_of, pentad_of, in_force_in, pentad_in_force, year_of, months_from}
@@ -53,7 +53,7 @@ first_moon system year =
     let v = year_of system year in
     (head_in v 0) ∷ (name_of (head_in v 0)) ∷ (remainder_in v 0) ∷ []
 
-told : Moment → List ℕ
+told : MomentAnswer → List ℕ
 told v = v.refusal ∷ v.day.0 ∷ (name_of v.day.0) ∷ v.parts ∷ v.units ∷ []
 
 pub answer : Question → List ℕ

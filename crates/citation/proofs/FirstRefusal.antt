@@ -9,7 +9,7 @@ use Rattle.calendar.specs.Inside.{Inside}
 use Rattle.calendar.proofs.Rising.{by_order}
 use Rattle.reckoning.proofs.RefusalCases.{by_inside}
 use Rattle.reckoning.specs.RefusalNumbers.{SHORT, KIND, RETIRED, LENGTH, OUTPUT}
-use Rattle.citation.specs.declared.judge.Judgement.{Judgement}
+use Rattle.citation.specs.Answers.{JudgementAnswer}
 use Rattle.citation.specs.Record.{kind_of}
 use Rattle.reckoning.specs.WordedRefusals.{FirstOf, ◌when◌}
 use Rattle.citation.specs.CitationRefusals.{TooShort, WrongKind, RetiredKind, WrongLength, NoRoom, content_rows, citation_rows, storing_rows}
@@ -38,7 +38,7 @@ module _ (s : List ℕ) where
       subst (Judged (content_rows s) s) (kind_four s refl e refl refl) (register_day_judged s e))))
 
   -- It is a record: its content decides.
-  content_decides : (j : Judgement) → (TooShort s → ⊥) → (WrongKind s → ⊥) → (RetiredKind s → ⊥) → (WrongLength s → ⊥)
+  content_decides : (j : JudgementAnswer) → (TooShort s → ⊥) → (WrongKind s → ⊥) → (RetiredKind s → ⊥) → (WrongLength s → ⊥)
       → Judged (content_rows s) s j
       → Judged (citation_rows s) s j
   content_decides j a b c d (Judged.refused number told some tells e rows) =

@@ -14,16 +14,14 @@ use Rattle.calendar.proofs.EachSystem.{consistent}
 use Rattle.calendar.proofs.Rising.{by_order}
 use Rattle.calendar.proofs.Reckoned.{reckoned}
 use Rattle.calendar.proofs.Spans.{span_first, span_next}
-use Rattle.reckoning.specs.declared.data.Month.{Month}
-use Rattle.reckoning.specs.declared.data.OrdinalDay.{OrdinalDay}
-use Rattle.reckoning.specs.declared.data.Date.{Date}
+use Rattle.reckoning.specs.Answers.{MonthAnswer, OrdinalAnswer, DateAnswer}
 use Rattle.reckoning.specs.Scope.{InScope, DayInScope}
 use Rattle.reckoning.specs.Requests.{ordinal_day_of, month_of, date_of}
 use Rattle.reckoning.specs.Outcomes.{MonthFound, MonthOutcome, OrdinalOutcome, DateFound, DateOutcome}
 use Rattle.reckoning.proofs.RefusalCases.{by_inside}
 use Rattle.reckoning.proofs.RequestsEnd.{ordinal_outcome, month_outcome, date_outcome}
 use Rattle.reckoning.specs.RefusalNumbers.{SYSTEM, YEAR, MONTH, DAY, LEAP}
-use Rattle.citation.specs.declared.judge.Judgement.{Judgement}
+use Rattle.citation.specs.Answers.{JudgementAnswer}
 use Rattle.citation.specs.Record.{kind_of, system_of, year_field, month_field, leap_field, day_field, name_field}
 use Rattle.citation.specs.Record.{ordinal_field, register_day_field, record_of}
 use Rattle.citation.specs.DayCited.{constants_in, elapsed_in, CitedMonth, NamesDay, OnDate}
@@ -37,7 +35,7 @@ use Rattle.citation.proofs.JudgementCases.{name_month_refused, no_name, name_pas
 
 -- What the judgement of an accepted citation holds: the day that it names, by year, month and day of the month, and
 -- the record of that date.
-pub record Kept (s : List ℕ) (j : Judgement) : Type 0 where
+pub record Kept (s : List ℕ) (j : JudgementAnswer) : Type 0 where
   pub year : ℕ
   pub month : ℕ
   pub leap : ℕ
@@ -47,20 +45,20 @@ pub record Kept (s : List ℕ) (j : Judgement) : Type 0 where
   pub names : NamesDay s j.day.0
 
 -- A citation judged by rows of refusals: the first that applies, with what it tells, or none.
-pub data Judged (rows : List Row) (s : List ℕ) (j : Judgement) : Type 0 where
+pub data Judged (rows : List Row) (s : List ℕ) (j : JudgementAnswer) : Type 0 where
   refused : (number told : ℕ) → 0 < number → Tells s number told → j ≡ refuse_telling number told → FirstOf rows number
       → Judged rows s j
   accepted : j.refusal ≡ 0 → j.told ≡ 0 → FirstOf rows 0 → Kept s j → Judged rows s j
 
 -- Any number but LEAP tells nothing.
-pub plainly_refused : {rows : List Row} {s : List ℕ} {j : Judgement} (number : ℕ) → (0 < number) × (number ≡ LEAP → ⊥)
+pub plainly_refused : {rows : List Row} {s : List ℕ} {j : JudgementAnswer} (number : ℕ) → (0 < number) × (number ≡ LEAP → ⊥)
     → j ≡ refuse number
     → FirstOf rows number
     → Judged rows s j
 plainly_refused number other e rows = Judged.refused number 0 other.0 (inr (other.1, refl)) e rows
 
 -- A value that carries a refusal number is judged by that number.
-refused_as : {A : Type 0} {v w : A} {j : Judgement} → v ≡ w → (number told : A → ℕ) → 0 < number w
+refused_as : {A : Type 0} {v w : A} {j : JudgementAnswer} → v ≡ w → (number told : A → ℕ) → 0 < number w
     → ((number v ≡ 0 → ⊥) → refuse_telling (number v) (told v) ≡ j)
     → j ≡ refuse_telling (number w) (told w)
 refused_as e number told some r =
@@ -85,7 +83,7 @@ module _ (s : List ℕ) where
   kind_four four = ⊎_elim (λ e. omega arith) (λ e. omega arith)
 
   -- The month of kinds 1 and 5: refused SYSTEM, YEAR, MONTH or LEAP, or found.
-  month_judged : (j : Judgement) (m : Month) → HasMonth s
+  month_judged : (j : JudgementAnswer) (m : MonthAnswer) → HasMonth s
       → MonthOutcome (system_of s) (year_field s) (month_field s) (leap_field s) m
       → ((m.refusal ≡ 0 → ⊥) → refuse_telling m.refusal m.told ≡ j)
       → (MonthFound (system_of s) (year_field s) (month_field s) (leap_field s) m → MonthRight → Judged (content_rows s) s j)
@@ -220,7 +218,7 @@ module _ (s : List ℕ) where
       (place_rows i w (inl (refl, name_not_placed kind k n (λ d r p is e. omega (arith, p, is, e))))))))
 
   -- A day that is named and has a date is kept.
-  kept_by_date : (r : ℕ) (d : Date) → NamesDay s r → DateFound (system_of s) r d
+  kept_by_date : (r : ℕ) (d : DateAnswer) → NamesDay s r → DateFound (system_of s) r d
       → Kept s (accept r (system_of s) d.year d.month d.leap d.day)
   kept_by_date r d names f =
       record {
@@ -249,7 +247,7 @@ module _ (s : List ℕ) where
   day_out_of_scope e out (Placed.ordinal_in_year f y i) = omega arith
   day_out_of_scope e out (Placed.day_in_scope f d) = out d
 
-  register_day_judged_by : kind_of s ≡ 4 → (d : Date) → d ≡ date_of (system_of s) (register_day_field s)
+  register_day_judged_by : kind_of s ≡ 4 → (d : DateAnswer) → d ≡ date_of (system_of s) (register_day_field s)
       → DateOutcome (system_of s) (register_day_field s) d
       → Judged (content_rows s) s (judge_register_day (system_of s) (register_day_field s))
   register_day_judged_by kind d is (DateOutcome.system_refused w e) =
@@ -280,7 +278,7 @@ module _ (s : List ℕ) where
       out (record { at_least = i.at_least; at_most = omega (arith, i.at_most) })
   ordinal_not_placed e y out (Placed.day_in_scope f d) = omega arith
 
-  ordinal_judged_by : kind_of s ≡ 3 → (d : OrdinalDay) → d ≡ ordinal_day_of (system_of s) (year_field s) (ordinal_field s)
+  ordinal_judged_by : kind_of s ≡ 3 → (d : OrdinalAnswer) → d ≡ ordinal_day_of (system_of s) (year_field s) (ordinal_field s)
       → OrdinalOutcome (system_of s) (year_field s) (ordinal_field s) d
       → Judged (content_rows s) s (judge_ordinal (system_of s) (year_field s) (ordinal_field s))
   ordinal_judged_by kind d is (OrdinalOutcome.system_refused w e) =

@@ -12,11 +12,9 @@ use Rattle.citation.specs.Record.{year_field, month_field, leap_field, day_field
 use lib.Dec.{leb}
 use borrow.Author.Tests.{eq-eqb, ne_eqb, le-leb, lt-leb}
 use Rattle.reckoning.specs.ComputedRefusals.{outside}
-use Rattle.reckoning.specs.declared.data.Month.{Month}
-use Rattle.reckoning.specs.declared.data.OrdinalDay.{OrdinalDay}
-use Rattle.reckoning.specs.declared.data.Date.{Date}
+use Rattle.reckoning.specs.Answers.{MonthAnswer, OrdinalAnswer, DateAnswer}
 use Rattle.reckoning.specs.Requests.{ordinal_day_of, month_of, date_of}
-use Rattle.citation.specs.declared.judge.Judgement.{Judgement}
+use Rattle.citation.specs.Answers.{JudgementAnswer}
 use Rattle.citation.specs.Store.{refuse_telling, refuse, accept, unless_refused, unless_wrong, judge_date, judge_register_day, judge_ordinal_day}
 use Rattle.citation.specs.Store.{judge_ordinal, judge_in_month, judge_day, judge_name_in_month, judge_name, days_to_name, name_wrong}
 use Rattle.citation.specs.Store.{judge_kind}
@@ -26,7 +24,7 @@ pub by_equal : {P : Type 0} (m n : ℕ) → (m ≡ n → P) → ((m ≡ n → �
 by_equal m n f g = elim (ℕ_discrete m n) [ yes e ↦ f e | no e ↦ g e ]
 
 -- One law for every kind.
-module _ (refusal told : ℕ) (wrong : Bool) (j : Judgement) where
+module _ (refusal told : ℕ) (wrong : Bool) (j : JudgementAnswer) where
   refused_by : (refusal ≡ 0 → ⊥) → refuse_telling refusal told ≡ unless_refused refusal told j
   refused_by h = simp (ne_eqb refusal 0 h)
 
@@ -40,8 +38,8 @@ module _ (refusal told : ℕ) (wrong : Bool) (j : Judgement) where
   right_place h e = simp (eq-eqb refusal 0 h, e)
 
 -- Kind 4, with the day's date.
-module _ (system r : ℕ) (d : Date) (e : d ≡ date_of system r) where
-  abbrev on_date : Judgement
+module _ (system r : ℕ) (d : DateAnswer) (e : d ≡ date_of system r) where
+  abbrev on_date : JudgementAnswer
   on_date = accept r system d.year d.month d.leap d.day
 
   dated : judge_date d system r ≡ judge_register_day system r
@@ -55,8 +53,8 @@ module _ (system r : ℕ) (d : Date) (e : d ≡ date_of system r) where
   date_accepted h = accepted_by d.refusal 0 false on_date h ∙ dated
 
 -- Kind 3, with the day of the year.
-module _ (system year ordinal : ℕ) (d : OrdinalDay) (e : d ≡ ordinal_day_of system year ordinal) where
-  abbrev on_ordinal : Judgement
+module _ (system year ordinal : ℕ) (d : OrdinalAnswer) (e : d ≡ ordinal_day_of system year ordinal) where
+  abbrev on_ordinal : JudgementAnswer
   on_ordinal = accept d.day.0 system year d.month d.leap d.place
 
   in_year : judge_ordinal_day d system year ≡ judge_ordinal system year ordinal
@@ -70,8 +68,8 @@ module _ (system year ordinal : ℕ) (d : OrdinalDay) (e : d ≡ ordinal_day_of 
   ordinal_accepted h = accepted_by d.refusal 0 false on_ordinal h ∙ in_year
 
 -- Kind 1, with its month.
-module _ (system year month leap day : ℕ) (m : Month) (e : m ≡ month_of system year month leap) where
-  abbrev on_day : Judgement
+module _ (system year month leap day : ℕ) (m : MonthAnswer) (e : m ≡ month_of system year month leap) where
+  abbrev on_day : JudgementAnswer
   on_day = accept (m.head.0 + day - 1) system year month leap day
 
   in_month : judge_in_month m system year month leap day ≡ judge_day system year month leap day
@@ -88,11 +86,11 @@ module _ (system year month leap day : ℕ) (m : Month) (e : m ≡ month_of syst
   day_right h w = right_place m.refusal m.told (outside 1 m.length day) on_day h w ∙ in_month
 
 -- Kind 5, with its month.
-module _ (system year month leap name : ℕ) (m : Month) (e : m ≡ month_of system year month leap) where
+module _ (system year month leap name : ℕ) (m : MonthAnswer) (e : m ≡ month_of system year month leap) where
   abbrev days : ℕ
   days = days_to_name m.head.0 name
 
-  abbrev on_name : Judgement
+  abbrev on_name : JudgementAnswer
   on_name = accept (m.head.0 + days) system year month leap (days + 1)
 
   name_in_month : judge_name_in_month m system year month leap name ≡ judge_name system year month leap name
@@ -121,7 +119,7 @@ module _ (system year month leap name : ℕ) (m : Month) (e : m ≡ month_of sys
       ap (λ n. accept (m.head.0 + n) system year month leap (n + 1)) is ∙ name_right z w (omega arith)
 
 -- Which judgement a kind gets, from what was read of the fields.
-module _ (s : List ℕ) {j : Judgement} {system : ℕ} (system_is : system ≡ system_of s) where
+module _ (s : List ℕ) {j : JudgementAnswer} {system : ℕ} (system_is : system ≡ system_of s) where
   pub kind_one : {year month leap day : ℕ} → kind_of s ≡ 1 → j ≡ judge_day system year month leap day
       → year ≡ year_field s
       → month ≡ month_field s
@@ -162,7 +160,7 @@ module _ (s : List ℕ) {j : Judgement} {system : ℕ} (system_is : system ≡ s
       ∙ simp (ne_eqb (kind_of s) 1 (omega arith), ne_eqb (kind_of s) 5 (omega arith), ne_eqb (kind_of s) 3 (omega arith))
 
   -- kinds 1 and 5 are refused as their month is
-  pub kind_with_month : {year month leap : ℕ} {m : Month} → HasMonth s → m ≡ month_of system year month leap
+  pub kind_with_month : {year month leap : ℕ} {m : MonthAnswer} → HasMonth s → m ≡ month_of system year month leap
       → (m.refusal ≡ 0 → ⊥)
       → j ≡ refuse_telling m.refusal m.told
       → year ≡ year_field s

@@ -9,7 +9,7 @@ use Rattle.calendar.specs.Systems.{last_system, constants_of, years_elapsed, IsR
 use Rattle.calendar.specs.Month.{month_head, month_length}
 use Rattle.calendar.specs.Year.{DayOfYear}
 use Rattle.reckoning.specs.Scope.{InScope}
-use Rattle.reckoning.specs.declared.data.Date.{Date}
+use Rattle.reckoning.specs.Answers.{DateAnswer}
 use Rattle.reckoning.specs.Requests.{date_of}
 use Rattle.reckoning.specs.Outcomes.{DateOutcome}
 use Rattle.calendar.proofs.EachSystem.{consistent}
@@ -107,7 +107,7 @@ pub dated : (system year r d : ℕ) → InScope system year → IsRegisterDay (c
     → Dated system r
 dated system year r d i is y = go (date_of system r) (date_outcome system r)
   where
-    go : (v : Date) → DateOutcome system r v → Dated system r
+    go : (v : DateAnswer) → DateOutcome system r v → Dated system r
     go v (DateOutcome.system_refused w e) = absurd (w i.system_inside)
     go v (DateOutcome.day_refused s w e) = absurd (w (year_day_in_scope system year r d i is y))
     go v (DateOutcome.found f) =

@@ -7,7 +7,7 @@ use native.Mathlib.Omega.{arith}
 use Rattle.calendar.specs.Year.{LeapNumber}
 use Rattle.calendar.proofs.Rising.{by_order}
 use Rattle.reckoning.specs.RefusalNumbers.{LEAP}
-use Rattle.citation.specs.declared.judge.Judgement.{Judgement}
+use Rattle.citation.specs.Answers.{JudgementAnswer}
 use Rattle.citation.specs.DayCited.{constants_in, elapsed_in}
 use Rattle.citation.specs.CitationRefusals.{citation_rows, Tells}
 use Rattle.citation.specs.Store.{judge_of, refusal_of, told_of}
@@ -27,7 +27,7 @@ module _ (s : List ℕ) where
   pub leap_told : (judge_of s).refusal ≡ LEAP → LeapNumber (constants_in s) (elapsed_in s) (told_of s)
   leap_told e = ⊎_elim (λ t. t.1) (λ t. absurd (t.0 e)) judgement_tells
 
-  pub nothing_told : {j : Judgement} → j ≡ judge_of s → (j.refusal ≡ LEAP → ⊥) → told_of s ≡ 0
+  pub nothing_told : {j : JudgementAnswer} → j ≡ judge_of s → (j.refusal ≡ LEAP → ⊥) → told_of s ≡ 0
   nothing_told e other =
       ⊎_elim (λ t. absurd (other (ap (λ j. j.refusal) e ∙ t.0))) (λ t. t.1) judgement_tells
 

@@ -1,6 +1,8 @@
 -- Proofs that serve several functions, and the theorems of the three demands.
 -- The cases of each kind's judgement.
 pub mod JudgementCases
+-- What the reckoning tells with a refusal: nothing where a day or a date is asked.
+pub mod NothingTold
 -- What is a whole record, and what is refused before.
 pub mod WholeRecord
 -- Ten bytes at the front of an output.

@@ -8,11 +8,11 @@ use lib.Dec.{eqb, ltb}
 use lib.ListN.{length, drop}
 use borrow.Author.Tests.{eq-eqb, ne_eqb, lt-ltb, le-ltb}
 use Rattle.reckoning.specs.RefusalNumbers.{OUTPUT}
-use Rattle.citation.specs.declared.judge.Judgement.{Judgement}
+use Rattle.citation.specs.Answers.{JudgementAnswer}
 use Rattle.citation.specs.Store.{judge_of, refusal_of, told_of, answer_of, stored_into}
 
 -- The refusal number.
-module _ (s : List ℕ) (room : ℕ) (j : Judgement) (e : j ≡ judge_of s) where
+module _ (s : List ℕ) (room : ℕ) (j : JudgementAnswer) (e : j ≡ judge_of s) where
   refusal_is : refusal_of s room ≡ cond (eqb j.refusal 0) (cond (ltb room 10) OUTPUT 0) j.refusal
   unfolding refusal_of
   refusal_is = ap (λ x. cond (eqb x.refusal 0) (cond (ltb room 10) OUTPUT 0) x.refusal) (sym e)
@@ -43,7 +43,7 @@ module _ (s : List ℕ) (number : ℕ) (some : number ≡ 0 → ⊥) where
       second_of _ _ before refused
 
 -- Accepted, the answer is the day, and the record stands in the first ten bytes.
-module _ (s : List ℕ) (j : Judgement) (e : j ≡ judge_of s) where
+module _ (s : List ℕ) (j : JudgementAnswer) (e : j ≡ judge_of s) where
   pub answer_accepted : (room : ℕ) → refusal_of s room ≡ 0 → told_of s ≡ 0 → j.day.0 ≡ answer_of s room
   unfolding answer_of
   answer_accepted room r t = rw (r, t) (omega (arith, ap (λ x. x.day.0) e))

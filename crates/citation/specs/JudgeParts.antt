@@ -4,6 +4,7 @@ use Rattle.calendar.specs.Inside.{Inside}
 use Rattle.reckoning.specs.declared.data.Month.{Month}
 use Rattle.reckoning.specs.ComputedRefusals.{outside}
 use Rattle.reckoning.specs.Requests.{month_of}
+use Rattle.reckoning.specs.Told.{month_answered}
 use Rattle.citation.specs.Record.{kind_of}
 use Rattle.citation.specs.Store.{length_right}
 
@@ -23,6 +24,5 @@ pub record Whole (s : List ℕ) (kind : ℕ) : Type 0 where
   pub of_nine : length s ≡ 9 → (kind ≡ 3) ⊎ (kind ≡ 4)
 
 -- The month that a citation names, found.
-pub record Found (m : Month) (system year month leap : ℕ) : Type 0 where
-  pub is_month : m ≡ month_of system year month leap
-  pub not_refused : m.refusal ≡ 0
+abbrev pub Found : Month → ℕ → ℕ → ℕ → ℕ → Type 0
+Found m system year month leap = month_answered m ≡ month_of system year month leap

@@ -8,8 +8,12 @@ pub mod DayCited
 pub mod CitationRefusals
 -- A record at the front of a lent output.
 pub mod Output
+-- A judgement as the papers have it.
+pub mod Answers
 -- What the storing step answers and writes, for every input and output.
 pub mod Store
+-- How what the code returns tells a judgement.
+pub mod Told
 -- What the demands ask for, in words.
 pub mod DemandWords
 -- What the parts of the judgement are handed and give.

@@ -1,40 +1,21 @@
 // The judgement of a citation: its refusal, or the day that it names and its stored record.
-ghost use Rattle.std.specs.Prelude.{◌≡◌, false, ◌<◌, ◌^◌, length};
-ghost use Rattle.citation.specs.Store.{refuse_telling, refuse, accept, judge_register_day, judge_ordinal, judge_day, days_to_name, judge_name};
+ghost use Rattle.std.specs.Prelude.{◌≡◌, false, Err, ◌<◌, ◌^◌, length};
+ghost use Rattle.citation.specs.Store.{accept, judge_register_day, judge_ordinal, judge_day, days_to_name, judge_name};
 ghost use Rattle.citation.specs.Store.{judge_kind, judge_of};
 ghost use Rattle.citation.specs.JudgeParts.{Whole, Found, is_whole};
+ghost use Rattle.citation.specs.Told.{judgement_answered, told_judgement};
 
+use crate::output::Record;
 use calendar::data::{DayName, Ordinal, RegisterDay};
 use little_endian::{le16, le32};
 use reckoning::data::Month;
-use reckoning::refusal::outside;
-use reckoning::refusal_numbers::{DAY, KIND, LENGTH, RETIRED, SHORT};
+use reckoning::refusal::{Refusal, outside};
 
-// `refusal` is 0 when the citation is accepted; refused, day and record are zeros. Refused LEAP, `told` is the number of
-// the year's leap month, 0 if it has none; otherwise it is 0.
+// The day that an accepted citation names, and its stored record.
 #[derive(Clone, Copy)]
 pub struct Judgement {
-    pub refusal: u8,
     pub day: RegisterDay,
-    pub stored: [u8; 10],
-    pub told: u8,
-}
-
-fn refuse_telling(refusal: u8, told: u8) -> Judgement
-    ensures { result ≡ refuse_telling refusal told }
-{
-    Judgement {
-        refusal: refusal,
-        day: RegisterDay(0),
-        stored: [0u8; 10],
-        told: told,
-    }
-}
-
-fn refuse(refusal: u8) -> Judgement
-    ensures { result ≡ refuse refusal }
-{
-    refuse_telling(refusal, 0)
+    pub stored: Record,
 }
 
 // A month as a record has it.
@@ -48,11 +29,10 @@ struct MonthCited {
 
 // A day, the month with it, and its place in the month.
 fn accept(day: RegisterDay, cited: MonthCited, place: u8) -> Judgement
-    ensures { result ≡ accept day.0 cited.system cited.year cited.number cited.leap place }
+    ensures { judgement_answered result ≡ accept day.0 cited.system cited.year cited.number cited.leap place }
 {
     let [low, high] = cited.year.to_le_bytes();
     Judgement {
-        refusal: 0,
         day: day,
         stored: [
             10,
@@ -66,53 +46,46 @@ fn accept(day: RegisterDay, cited: MonthCited, place: u8) -> Judgement
             cited.leap,
             place,
         ],
-        told: 0,
     }
 }
 
 // Kind 3.
-fn judge_ordinal(system: u8, year: u16, ordinal: Ordinal) -> Judgement
-    ensures { result ≡ judge_ordinal system year ordinal.0 }
+fn judge_ordinal(system: u8, year: u16, ordinal: Ordinal) -> Result<Judgement, Refusal>
+    ensures { told_judgement result ≡ judge_ordinal system year ordinal.0 }
 {
-    let d = reckoning::ordinal_day(system as u32, year as u32, ordinal);
-    if d.refusal != 0 {
-        return refuse(d.refusal);
-    }
+    let d = reckoning::ordinal_day(system as u32, year as u32, ordinal)?;
     let cited = MonthCited {
         system: system,
         year: year,
         number: d.month,
         leap: d.leap,
     };
-    accept(d.day, cited, d.place)
+    Ok(accept(d.day, cited, d.place))
 }
 
 // Kind 4.
-fn judge_register_day(system: u8, day: RegisterDay) -> Judgement
-    ensures { result ≡ judge_register_day system day.0 }
+fn judge_register_day(system: u8, day: RegisterDay) -> Result<Judgement, Refusal>
+    ensures { told_judgement result ≡ judge_register_day system day.0 }
 {
-    let d = reckoning::date(system as u32, day);
-    if d.refusal != 0 {
-        return refuse(d.refusal);
-    }
+    let d = reckoning::date(system as u32, day)?;
     let cited = MonthCited {
         system: system,
         year: d.year as u16,
         number: d.month,
         leap: d.leap,
     };
-    accept(day, cited, d.day)
+    Ok(accept(day, cited, d.day))
 }
 
 // Kind 1, in its month.
-fn judge_day(m: Month, cited: MonthCited, day: u8) -> Judgement
+fn judge_day(m: Month, cited: MonthCited, day: u8) -> Result<Judgement, Refusal>
     requires { Found m cited.system cited.year cited.number cited.leap }
-    ensures { result ≡ judge_day cited.system cited.year cited.number cited.leap day }
+    ensures { told_judgement result ≡ judge_day cited.system cited.year cited.number cited.leap day }
 {
     if outside(1, m.length as u32, day as u32) {
-        return refuse(DAY);
+        return Err(Refusal::Day);
     }
-    accept(RegisterDay(m.head.0 + day as u32 - 1), cited, day)
+    Ok(accept(RegisterDay(m.head.0 + day as u32 - 1), cited, day))
 }
 
 // Sixty times a number, and more than any head.
@@ -128,35 +101,32 @@ fn days_to_name(head: RegisterDay, name: DayName) -> u32
 }
 
 // Kind 5, in its month.
-fn judge_name(m: Month, cited: MonthCited, name: DayName) -> Judgement
+fn judge_name(m: Month, cited: MonthCited, name: DayName) -> Result<Judgement, Refusal>
     requires { Found m cited.system cited.year cited.number cited.leap }
-    ensures { result ≡ judge_name cited.system cited.year cited.number cited.leap name.0 }
+    ensures { told_judgement result ≡ judge_name cited.system cited.year cited.number cited.leap name.0 }
 {
     if outside(1, 60, name.0 as u32) {
-        return refuse(DAY);
+        return Err(Refusal::Day);
     }
     let days = days_to_name(m.head, name);
     if m.length as u32 <= days {
-        return refuse(DAY);
+        return Err(Refusal::Day);
     }
-    accept(RegisterDay(m.head.0 + days), cited, days as u8 + 1)
+    Ok(accept(RegisterDay(m.head.0 + days), cited, days as u8 + 1))
 }
 
 // A record whose kind and length are right. Each request to the reckoning stands at one place: the compiler copies those
 // of their size only into the one place that calls them.
-fn judge_kind(s: &[u8], kind: u32) -> Judgement
+fn judge_kind(s: &[u8], kind: u32) -> Result<Judgement, Refusal>
     requires { Whole s.now kind }
-    ensures { result ≡ judge_kind s.now }
+    ensures { told_judgement result ≡ judge_kind s.now }
 {
     let system = s[4];
     if s.len() == 10 {
         let year = le16(s[5], s[6]);
         let number = s[7];
         let leap = s[8];
-        let m = reckoning::month(system as u32, year, number as u32, leap as u32);
-        if m.refusal != 0 {
-            return refuse_telling(m.refusal, m.told);
-        }
+        let m = reckoning::month(system as u32, year, number as u32, leap as u32)?;
         let cited = MonthCited {
             system: system,
             year: year as u16,
@@ -201,30 +171,30 @@ fn is_whole(s: &[u8]) -> bool
     kind == 5
 }
 
-// What is no whole record is refused, in the order of the table.
-fn refuse_frame(s: &[u8]) -> Judgement
+// The refusal of what is no whole record: the first in the order of the table.
+fn frame_refusal(s: &[u8]) -> Refusal
     requires { is_whole s.now ≡ false }
-    ensures { result ≡ judge_of s.now }
+    ensures { told_judgement (Err result) ≡ judge_of s.now }
 {
     if s.len() < 4 {
-        return refuse(SHORT);
+        return Refusal::Short;
     }
     let kind = le16(s[2], s[3]);
     if outside(1, 5, kind) {
-        return refuse(KIND);
+        return Refusal::Kind;
     }
     if kind == 2 {
-        return refuse(RETIRED);
+        return Refusal::Retired;
     }
-    refuse(LENGTH)
+    Refusal::Length
 }
 
 // Any bytes. Whether a record is whole is tested first, and only of another what is wrong: most records are whole.
-pub fn judge(s: &[u8]) -> Judgement
-    ensures { result ≡ judge_of s.now }
+pub fn judge(s: &[u8]) -> Result<Judgement, Refusal>
+    ensures { told_judgement result ≡ judge_of s.now }
 {
     if is_whole(s) {
         return judge_kind(s, le16(s[2], s[3]));
     }
-    refuse_frame(s)
+    Err(frame_refusal(s))
 }

@@ -17,8 +17,8 @@ judge_kind-requires c = subst (Whole _) (sym c.le16.ensures.0) ((whole_record _ 
 pub returns-then-is_whole : goal.returns-then-is_whole
 returns-then-is_whole c = c.judge_kind.ensures ∙ whole_judged _ ((sym c.is_whole.ensures ∙ c.if-is_whole.true))
 
-pub refuse_frame-requires : goal.refuse_frame-requires
-refuse_frame-requires c = sym c.is_whole.ensures ∙ c.if-is_whole.false
+pub frame_refusal-requires : goal.frame_refusal-requires
+frame_refusal-requires c = sym c.is_whole.ensures ∙ c.if-is_whole.false
 
 pub returns : goal.returns
-returns c = c.refuse_frame.ensures
+returns c = c.frame_refusal.ensures

@@ -1,4 +1,4 @@
-use mathlib.Core.Path.{sym, ◌∙◌}
+use mathlib.Core.Path.{refl, sym, ◌∙◌}
 use native.Mathlib.Omega.{arith}
 use Rattle.reckoning.proofs.RefusalCases.{inside_of}
 use Rattle.reckoning.proofs.AnswersFit.{month_fits}
@@ -8,13 +8,11 @@ use Rattle.citation.proofs.judge.judge_day.Goals.{Else-outside}
 
 pub returns-then-outside : goal.returns-then-outside
 returns-then-outside c =
-    let found = c.requires in
-    let wrong = sym c.outside.ensures ∙ c.if-outside.true in
-    c.refuse.ensures ∙ day_wrong_lem _ _ _ _ _ _ found.is_month found.not_refused wrong
+    day_wrong_lem _ _ _ _ _ _ c.requires refl (sym c.outside.ensures ∙ c.if-outside.true)
 
 pub overflow_add-m : goal.overflow_add-m
 overflow_add-m c =
-    let small = month_fits _ _ _ _ _ c.requires.is_month c.requires.not_refused in
+    let small = month_fits _ _ _ _ _ c.requires refl in
     omega arith
 
 pub overflow_sub-m : goal.overflow_sub-m
@@ -25,5 +23,4 @@ overflow_sub-m c =
 
 pub returns : goal.returns
 returns c =
-    let found = c.requires in
-    c.accept.ensures ∙ day_right _ _ _ _ _ _ found.is_month found.not_refused ((sym c.outside.ensures ∙ c.if-outside.false))
+    c.accept.ensures ∙ day_right _ _ _ _ _ _ c.requires refl (sym c.outside.ensures ∙ c.if-outside.false)

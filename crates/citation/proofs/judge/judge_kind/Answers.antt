@@ -1,19 +1,27 @@
 use mathlib.Core.Path.{◌≡◌, refl, sym, ◌∙◌}
 use mathlib.Core.Logic.{inl, inr, ⊎_elim}
 use native.Mathlib.Omega.{arith}
+use Rattle.std.proofs.lemmas.Result.{err_from_is_err_and}
+use Rattle.reckoning.proofs.ToldCases.{number_not_0}
 use Rattle.citation.specs.Record.{kind_of}
 use Rattle.citation.proofs.JudgementCases.{kind_with_month, kind_one, kind_five, kind_three, kind_four}
 use Rattle.citation.proofs.judge.judge_kind.Goals as goal
-use Rattle.citation.proofs.judge.judge_kind.Goals.{After-month-m, Else-s-eq10}
 
-pub returns-then-m-ne0 : goal.returns-then-m-ne0
-returns-then-m-ne0 c =
-    kind_with_month _ (omega arith) ((let known = c.requires in ⊎_elim (λ one. inl (sym known.of_kind ∙ one)) (λ five. inr (sym known.of_kind ∙ five)) (known.of_ten c.if-s-eq10.true))) c.month-m.ensures
-    c.if-m-ne0.true
-    c.refuse_telling.ensures
+pub returns-in_err-m : goal.returns-in_err-m
+returns-in_err-m c =
+    let p = err_from_is_err_and c.from_residual.result c.from_residual.ensures.1 in
+    rw (p.1, p.2) (kind_with_month _ (omega arith) ((let known = c.requires in ⊎_elim (λ one. inl (sym known.of_kind ∙ one)) (λ five. inr (sym known.of_kind ∙ five)) (known.of_ten c.if-s-eq10.true))) c.in_err-m.ensures
+    (number_not_0 _)
+    refl
     (omega arith)
     (omega arith)
-    (omega arith)
+    (omega arith))
+
+pub judge_day-requires : goal.judge_day-requires
+judge_day-requires c = c.in_ok-m.ensures
+
+pub judge_name-requires : goal.judge_name-requires
+judge_name-requires c = c.in_ok-m.ensures
 
 pub returns-then-kind-eq1 : goal.returns-then-kind-eq1
 returns-then-kind-eq1 c =
