@@ -54,21 +54,22 @@ pub struct Days {
     pub length: u16,
 }
 
-// A day of a year by its ordinal: the day, its month's number and leap mark, and its place in the month.
+// A day of a year by its ordinal: the day, its month's number and leap mark, and its place in the month. In this order the
+// fields take twelve bytes: a struct of eight is packed into one word and taken apart again, which costs the storing step
+// time.
 #[derive(Clone, Copy)]
 pub struct OrdinalDay {
-    pub day: RegisterDay,
     pub month: u8,
+    pub day: RegisterDay,
     pub leap: u8,
     pub place: u8,
 }
 
-// A day by year, month number, leap mark and day of the month. The year has 32 bits, since a struct of eight bytes is
-// packed into one word and taken apart again.
+// A day by year, month number, leap mark and day of the month; of twelve bytes too.
 #[derive(Clone, Copy)]
 pub struct Date {
-    pub year: u32,
     pub month: u8,
+    pub year: u32,
     pub leap: u8,
     pub day: u8,
 }

@@ -12,18 +12,18 @@ pub returns-then-put : goal.returns-then-put
 returns-then-put c =
     let output = c.args.output.now in
     let j = c.in-Ok.ensures in
+    let nothing = nothing_told _ j (λ e. omega arith) in
     let room = put_true output _ (sym c.put.ensures.value ∙ c.if-put.true) in
     let r = refusal_none _ _ _ j refl room.0 in
-    let nothing = nothing_told _ j (λ e. omega arith) in
     record { value = answer_accepted _ _ j _ r nothing; output_after = c.put.ensures.output_after ∙ room.1 ∙ output_accepted _ _ j output r }
 
 pub returns-else-put : goal.returns-else-put
 returns-else-put c =
     let output = c.args.output.now in
     let j = c.in-Ok.ensures in
+    let nothing = nothing_told _ j (λ e. omega arith) in
     let short = put_false output _ (sym c.put.ensures.value ∙ c.if-put.false) in
     let r = refusal_output _ _ _ j refl short.0 in
-    let nothing = nothing_told _ j (λ e. omega arith) in
     record {
       value = c.refused.ensures ∙ answer_refused _ OUTPUT (λ z. omega arith) _ 0 r nothing;
       output_after = c.put.ensures.output_after ∙ short.1 ∙ output_refused _ OUTPUT (λ z. omega arith) output r;
