@@ -1,13 +1,13 @@
 -- The line of a record by its judgement, and its length.
 use Prim.Native.Nat.{ℕ, ◌≤◌}
-use mathlib.Core.Path.{◌≡◌, subst}
+use mathlib.Core.Path.{◌≡◌, subst, ap, ap₂}
 use mathlib.Core.Bool.{true, false, cond}
 use mathlib.Core.List.{List, [], ◌∷◌, ◌++◌}
 use native.Mathlib.Omega.{arith}
 use lib.Dec.{eqb}
 use lib.ListN.{length, length-append}
 use borrow.Author.Tests.{eq-eqb, ne_eqb}
-use Rattle.citation.specs.declared.judge.Judgement.{Judgement}
+use Rattle.citation.specs.Answers.{JudgementAnswer}
 use Rattle.citation.specs.Store.{judge_of}
 use Rattle.calendar.proofs.Cases.{by_bool}
 use Rattle.calendar.specs.declared.data.DayName.{DayName}
@@ -35,8 +35,8 @@ put_stored {b} {a} {at} {e} stored r year_is name-is =
     (λ i. words (system_of stored) (year_is i) (month_field stored) (leap_field stored) (day_field stored) r (name-is i).0)
 
 -- The line of a record by its judgement.
-module _ (s : List ℕ) (j : Judgement) (e : j ≡ judge_of s) where
-  abbrev line_by : Judgement → List ℕ
+module _ (s : List ℕ) (j : JudgementAnswer) (e : j ≡ judge_of s) where
+  abbrev line_by : JudgementAnswer → List ℕ
   line_by x = cond (eqb x.refusal 0) (stored_line x.stored x.day.0) (refusal_line x.refusal x.told)
 
   pub line_refused : (j.refusal ≡ 0 → ⊥) → refusal_line j.refusal j.told ≡ line_of s
@@ -48,19 +48,22 @@ module _ (s : List ℕ) (j : Judgement) (e : j ≡ judge_of s) where
   line_accepted h = subst (λ x. stored_line j.stored j.day.0 ≡ line_by x) e (simp (eq-eqb j.refusal 0 h))
 
 -- A refusal's line is put with the month told, or without.
-module _ {b a : List ℕ} {at end : ℕ} (number told : ℕ) where
-  pub put_telling : number ≡ LEAP → Puts b at 64 (refused_telling_line number told) a end → Puts b at 64 (refusal_line number told) a end
-  put_telling h w = simp (eq-eqb number LEAP h) w
+module _ {b a : List ℕ} {at end n number : ℕ} (is : n ≡ number) where
+  pub put_telling : {t told : ℕ} → t ≡ told → number ≡ LEAP → Puts b at 64 (refused_telling_line n t) a end
+      → Puts b at 64 (refusal_line number told) a end
+  put_telling e h w =
+      simp (eq-eqb number LEAP h) (subst (λ line. Puts b at 64 line a end) (ap₂ refused_telling_line is e) w)
 
-  pub put_plain : (number ≡ LEAP → ⊥) → Puts b at 64 (refused_line number) a end → Puts b at 64 (refusal_line number told) a end
-  put_plain h w = simp (ne_eqb number LEAP h) w
+  pub put_plain : (told : ℕ) → (number ≡ LEAP → ⊥) → Puts b at 64 (refused_line n) a end → Puts b at 64 (refusal_line number told) a end
+  put_plain told h w =
+      simp (ne_eqb number LEAP h) (subst (λ line. Puts b at 64 line a end) (ap refused_line is) w)
 
-pub wrote_refused : {b a : List ℕ} {at end : ℕ} {j : Judgement} (s : List ℕ) → j ≡ judge_of s → (j.refusal ≡ 0 → ⊥)
+pub wrote_refused : {b a : List ℕ} {at end : ℕ} {j : JudgementAnswer} (s : List ℕ) → j ≡ judge_of s → (j.refusal ≡ 0 → ⊥)
     → Wrote b at (refusal_line j.refusal j.told) a end
     → Wrote b at (line_of s) a end
 wrote_refused {j = j} s e h w = wrote_as (line_refused s j e h) w
 
-pub wrote_accepted : {b a : List ℕ} {at end : ℕ} {j : Judgement} (s : List ℕ) → j ≡ judge_of s → j.refusal ≡ 0
+pub wrote_accepted : {b a : List ℕ} {at end : ℕ} {j : JudgementAnswer} (s : List ℕ) → j ≡ judge_of s → j.refusal ≡ 0
     → Wrote b at (stored_line j.stored j.day.0) a end
     → Wrote b at (line_of s) a end
 wrote_accepted {j = j} s e h w = wrote_as (line_accepted s j e h) w
@@ -102,6 +105,6 @@ module _ (rest : List ℕ) where
   pub put_no_ending : (b : List ℕ) (at : ℕ) → eqb (length rest) 0 ≡ true → Put b at 19 (ending_of rest) b at
   put_no_ending b at none = simp none (put_nothing b at 19)
 
-  pub put_ending : {b a : List ℕ} {at end : ℕ} → eqb (length rest) 0 ≡ false → Put b at 19 (refused_line SHORT) a end
+  pub put_ending : {b a : List ℕ} {at end n : ℕ} → eqb (length rest) 0 ≡ false → n ≡ SHORT → Put b at 19 (refused_line n) a end
       → Put b at 19 (ending_of rest) a end
-  put_ending some p = simp some p
+  put_ending {b} {a} {at} {end} some is p = simp some (subst (λ n. Put b at 19 (refused_line n) a end) is p)

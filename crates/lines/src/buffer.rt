@@ -5,7 +5,7 @@ ghost use Rattle.lines.specs.Program.{next_with_room, LinesPut, ending_of};
 
 use crate::line::put_line;
 use framing::next;
-use reckoning::refusal_numbers::SHORT;
+use reckoning::refusal::Refusal;
 
 // How far a buffer was read, and how much was written.
 #[derive(Clone, Copy)]
@@ -48,5 +48,5 @@ pub fn ending(out: &mut [u8], at: usize, rest: &[u8]) -> usize
     if rest.is_empty() {
         return at;
     }
-    text::refused(out, at, SHORT)
+    text::refused(out, at, Refusal::Short.number())
 }

@@ -7,4 +7,4 @@ returns-then-is_empty c = put_no_ending _ _ _ (sym c.is_empty.ensures ∙ c.if-i
 
 pub returns : goal.returns
 returns c =
-    put_ending _ (sym c.is_empty.ensures ∙ c.if-is_empty.false) c.refused.ensures
+    put_ending _ (sym c.is_empty.ensures ∙ c.if-is_empty.false) c.number.ensures c.refused.ensures

@@ -6,5 +6,5 @@ use Rattle.lines.proofs.line.put_day.Goals as goal
 pub returns : goal.returns
 returns c =
     all_put
-    (put_stored c.args.stored c.args.day.0 c.le16.ensures.0 c.day_name-name.ensures (search put_three))
+    (put_stored c.args.j.stored c.args.j.day.0 c.le16.ensures.0 c.day_name-name.ensures (search put_three))
     (omega arith)

@@ -1,9 +1,11 @@
+use mathlib.Core.Path.{refl}
 use native.Mathlib.Omega.{arith}
+use Rattle.reckoning.proofs.ToldCases.{number_not_0}
 use Rattle.lines.proofs.Lines.{wrote_refused, wrote_accepted}
 use Rattle.lines.proofs.line.put_line.Goals as goal
 
-pub returns-then-refusal-ne0 : goal.returns-then-refusal-ne0
-returns-then-refusal-ne0 c = (search wrote_refused, omega arith)
+pub returns-in-Ok : goal.returns-in-Ok
+returns-in-Ok c = (wrote_accepted _ c.in-Ok.ensures refl c.put_day.ensures.0, omega arith)
 
-pub returns : goal.returns
-returns c = (search wrote_accepted, omega arith)
+pub returns-in-Err : goal.returns-in-Err
+returns-in-Err c = (wrote_refused _ c.in-Err.ensures (number_not_0 _) c.put_refusal.ensures.0, omega arith)
