@@ -1,19 +1,24 @@
 -- Records in their place, and how a conversion ends.
-use Prim.Native.Nat.{ℕ, ◌+◌, ◌*◌, ◌^◌, ◌≤◌, ◌<◌}
-use mathlib.Core.Path.{◌≡◌, ap, ap₂, sym, ◌∙◌}
+use Prim.Native.Nat.{ℕ, ◌+◌, ◌≤◌, ◌<◌}
+use mathlib.Core.Path.{◌≡◌, refl, ap, ap₂, sym, ◌∙◌}
 use mathlib.Core.Bool.{cond}
 use mathlib.Core.List.{List, [], ◌∷◌, ◌++◌, append-nil}
 use native.Mathlib.Omega.{arith}
 use lib.Dec.{eqb}
 use lib.ListN.{length, set, drop, length-set, drop_of_length-le}
 use borrow.Author.Tests.{eq-eqb, ne_eqb, lt-ltb, le-ltb, le-leb}
+use Rattle.std.specs.Prelude.{Result, Ok, Err}
+use Rattle.std.specs.Result.{result_err}
 use Rattle.calendar.proofs.Cases.{by_bool}
+use Rattle.reckoning.specs.declared.refusal.Refusal.{Refusal}
 use Rattle.reckoning.specs.RefusalNumbers.{KIND, OUTPUT}
+use Rattle.reckoning.specs.Told.{told_refusal}
 use Rattle.little_endian.specs.Bytes.{byte}
 use Rattle.citation.specs.Record.{name_field}
 use Rattle.citation.specs.Output.{record_into}
 use Rattle.citation.proofs.TenBytes.{elements, elements_all}
-use Rattle.conversion.specs.Conversion.{conversion_refusal, refusal_into, converted, conversion_answer, converted_into, renewed, left_with}
+use Rattle.conversion.specs.Conversion.{conversion_refusal, refusal_into, converted, converted_into, renewed, left_with}
+use Rattle.conversion.specs.Told.{told_left}
 use Rattle.conversion.proofs.Cases.{Convertible, accepted}
 
 -- A record in its place.
@@ -63,6 +68,11 @@ module _ (s : List ℕ) where
       (λ e. ap (λ b. length (cond b (converted s) s)) e ∙ converted_length)
       (λ e. ap (λ b. length (cond b (converted s) s)) e)
 
+-- The refusal of a record that is left, told as the one by which it is not converted.
+pub told_err : {A : Type 0} (r : Result A Refusal) → told_left (result_err r) ≡ told_refusal r
+told_err (Ok a) = refl
+told_err (Err e) = refl
+
 -- A conversion's own refusal stands, then that of its output.
 module _ (s : List ℕ) (room : ℕ) where
   pub refusal_kept : (conversion_refusal s ≡ 0 → ⊥) → refusal_into s room ≡ conversion_refusal s
@@ -77,9 +87,9 @@ module _ (s : List ℕ) (room : ℕ) where
   unfolding refusal_into
   refusal_none z h = simp (eq-eqb (conversion_refusal s) 0 z, le-ltb room 10 h)
 
--- Refused with a number: the answer, and the output as it was;
+-- Refused with a number: the output as it was;
 pub record Refused (s before : List ℕ) (number : ℕ) : Type 0 where
-  pub answer : number * 2 ^ 32 ≡ conversion_answer s (length before)
+  pub number_is : number ≡ refusal_into s (length before)
   pub output : before ≡ converted_into s before
 
 module _ (s before : List ℕ) where
@@ -87,7 +97,7 @@ module _ (s before : List ℕ) where
   unfolding converted_into
   refused_by number is some =
       record {
-        answer = omega arith;
+        number_is = sym is;
         output =
             ap (λ b. cond b (converted s ++ drop 10 before) before)
             (sym (ne_eqb (refusal_into s (length before)) 0 (λ z. some (sym is ∙ z))));
@@ -101,9 +111,6 @@ module _ (s before : List ℕ) where
   no_room z h = refused_by OUTPUT (refusal_output s (length before) z h) (λ e. omega arith)
 
   -- or converted.
-  pub answered : conversion_refusal s ≡ 0 → 10 ≤ length before → 0 ≡ conversion_answer s (length before)
-  answered z h = omega (arith, refusal_none s (length before) z h)
-
   pub written : {bytes : List ℕ} → conversion_refusal s ≡ 0 → 10 ≤ length before → bytes ≡ converted s
       → bytes ++ drop 10 before ≡ converted_into s before
   unfolding converted_into

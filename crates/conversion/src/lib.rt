@@ -2,13 +2,15 @@
 #![tactic(auto)]
 
 ghost use Rattle.std.specs.Prelude.{◌≡◌, false, eqb, length};
-ghost use Rattle.reckoning.specs.RefusalNumbers.{KIND};
-ghost use Rattle.conversion.specs.Conversion.{conversion_refusal, converted, conversion_answer};
+ghost use Rattle.reckoning.specs.RefusalNumbers.{KIND, number_of};
+ghost use Rattle.reckoning.specs.Told.{told_refusal};
+ghost use Rattle.conversion.specs.Conversion.{conversion_refusal, refusal_into, converted, conversion_answer};
 ghost use Rattle.conversion.specs.Conversion.{converted_into, renewed, left_with};
+ghost use Rattle.conversion.specs.Told.{told_left};
 
 use citation::output::{Record, put};
 use little_endian::le16;
-use reckoning::refusal_numbers::{DAY, KIND, LENGTH, OUTPUT, REFUSAL_UNIT, SHORT};
+use reckoning::refusal::Refusal;
 
 // A record that is converted.
 fn is_convertible(s: &[u8]) -> bool
@@ -21,30 +23,30 @@ fn is_convertible(s: &[u8]) -> bool
 }
 
 // The refusal of another.
-fn refuse(s: &[u8]) -> u8
+fn refusal(s: &[u8]) -> Refusal
     requires { eqb (conversion_refusal s.now) 0 ≡ false }
-    ensures { result ≡ conversion_refusal s.now }
+    ensures { number_of result ≡ conversion_refusal s.now }
 {
     if s.len() < 4 {
-        return SHORT;
+        return Refusal::Short;
     }
     if le16(s[2], s[3]) != 2 {
-        return KIND;
+        return Refusal::Kind;
     }
     if s.len() != 10 || le16(s[0], s[1]) != 10 {
-        return LENGTH;
+        return Refusal::Length;
     }
-    DAY
+    Refusal::Day
 }
 
-// The refusal of a record by its bytes, 0 where there is none. What it cites is left to the storing step.
-fn refusal(s: &[u8]) -> u8
-    ensures { result ≡ conversion_refusal s.now }
+// A record is converted or refused by its bytes. What it cites is left to the storing step.
+fn convertible(s: &[u8]) -> Result<(), Refusal>
+    ensures { told_refusal result ≡ conversion_refusal s.now }
 {
     if is_convertible(s) {
-        return 0;
+        return Ok(());
     }
-    refuse(s)
+    Err(refusal(s))
 }
 
 // The record of kind 5 for one of kind 2, whose first four bytes are known.
@@ -62,46 +64,51 @@ fn is_another(s: &[u8]) -> bool
     4 <= s.len() && le16(s[2], s[3]) != 2
 }
 
-// The refusal of a record that is left, 0 of one that is converted or of another kind.
-pub fn left_with(s: &[u8]) -> u8
-    ensures { result ≡ left_with s.now }
+// The refusal of a record that is left; one that is converted or of another kind has none.
+pub fn left_with(s: &[u8]) -> Option<Refusal>
+    ensures { told_left result ≡ left_with s.now }
 {
     if is_another(s) {
-        return 0;
+        return None;
     }
-    refusal(s)
+    convertible(s).err()
 }
 
-// A record in its place: converted, or left as it is, with its refusal as the answer. Most records are of another kind,
-// which is tested first.
-pub fn renew(cited: &mut [u8]) -> u8
-    ensures value { result ≡ left_with cited.old }
+// A record in its place: converted, or left as it is, with its refusal. Most records are of another kind, which is tested
+// first.
+pub fn renew(cited: &mut [u8]) -> Result<(), Refusal>
+    ensures value { told_refusal result ≡ left_with cited.old }
     ensures cited_after { cited.new ≡ renewed cited.old }
 {
     if is_another(cited) {
-        return 0;
+        return Ok(());
     }
-    let refusal = refusal(cited);
-    if refusal == 0 {
-        let record = raised(cited);
-        put(cited, record);
-        return 0;
-    }
-    refusal
+    convertible(cited)?;
+    let record = raised(cited);
+    put(cited, record);
+    Ok(())
 }
 
-// Converts one record. The output's first ten bytes become the record of kind 5, and the rest is left. The answer is
-// 2^32 times the refusal number; refused, no byte changes.
+// Converts one record. The output's first ten bytes become the record of kind 5, and the rest is left; refused, no byte
+// changes.
+fn convert(input: &[u8], output: &mut [u8]) -> Result<(), Refusal>
+    ensures value { told_refusal result ≡ refusal_into input.now (length output.old) }
+    ensures output_after { output.new ≡ converted_into input.now output.old }
+{
+    convertible(input)?;
+    if put(output, raised(input)) {
+        return Ok(());
+    }
+    Err(Refusal::Output)
+}
+
+// Converts one record, with 2^32 times the refusal number as the answer.
 pub fn chiselbrow_convert(input: &[u8], output: &mut [u8]) -> u64
     ensures value { result ≡ conversion_answer input.now (length output.old) }
     ensures output_after { output.new ≡ converted_into input.now output.old }
 {
-    let refusal = refusal(input);
-    if refusal != 0 {
-        return refusal as u64 * REFUSAL_UNIT;
+    match convert(input, output) {
+        Ok(()) => 0,
+        Err(refusal) => refusal.in_answer(),
     }
-    if put(output, raised(input)) {
-        return 0;
-    }
-    OUTPUT as u64 * REFUSAL_UNIT
 }

@@ -1,10 +1,11 @@
 use mathlib.Core.Path.{sym, ◌∙◌}
 use native.Mathlib.Omega.{arith}
 use borrow.Author.Tests.{eqb-true, eqb-false}
+use Rattle.std.proofs.lemmas.Result.{err_from_is_err_and}
 use Rattle.reckoning.specs.RefusalNumbers.{KIND}
+use Rattle.reckoning.proofs.ToldCases.{number_not_0}
 use Rattle.conversion.proofs.Ends.{renewed_in_place, renewed_left, left_with_lem, left_another}
 use Rattle.conversion.proofs.renew.Goals as goal
-use Rattle.conversion.proofs.renew.Goals.{Then-refusal-eq0}
 
 pub returns-then-is_another : goal.returns-then-is_another
 returns-then-is_another c =
@@ -14,21 +15,23 @@ returns-then-is_another c =
       cited_after = renewed_left _ (λ z. omega (arith, another));
     }
 
-pub raised-record-requires : goal.raised-record-requires
-raised-record-requires c = (sym c.refusal-refusal.ensures ∙ c.if-refusal-eq0.true)
+pub returns-in_err-convertible : goal.returns-in_err-convertible
+returns-in_err-convertible c =
+    let p = err_from_is_err_and c.from_residual.result c.from_residual.ensures.1 in
+    let is = c.in_err-convertible.ensures in
+    let not_another = eqb-false _ KIND (sym c.is_another.ensures ∙ c.if-is_another.false) in
+    rw (p.1, p.2) (record {
+      value = is ∙ left_with_lem _ not_another;
+      cited_after = renewed_left _ (λ z. number_not_0 _ (is ∙ z));
+    })
 
-pub returns-then-refusal-eq0 : goal.returns-then-refusal-eq0
-returns-then-refusal-eq0 c =
-    let none = (sym c.refusal-refusal.ensures ∙ c.if-refusal-eq0.true) in record {
-      value = sym none ∙ left_with_lem _ (λ e. omega arith);
-      cited_after = c.put.ensures.output_after ∙ renewed_in_place _ none c.raised-record.ensures;
-    }
+pub raised-record-requires : goal.raised-record-requires
+raised-record-requires c = sym c.in_ok-convertible.ensures
 
 pub returns : goal.returns
 returns c =
-    let is = c.refusal-refusal.ensures in
-    let not_another = eqb-false _ KIND (sym c.is_another.ensures ∙ c.if-is_another.false) in
+    let none = sym c.in_ok-convertible.ensures in
     record {
-      value = is ∙ left_with_lem _ not_another;
-      cited_after = renewed_left _ (λ z. c.if-refusal-eq0.false (is ∙ z));
+      value = sym none ∙ left_with_lem _ (λ e. omega arith);
+      cited_after = c.put.ensures.output_after ∙ renewed_in_place _ none c.raised-record.ensures;
     }
