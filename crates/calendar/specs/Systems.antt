@@ -1,6 +1,10 @@
 -- The systems: paper 01, "Constants", and of paper 02, Q-4, the denominator of a pentad's fraction; Jingchu by Q-6.
-use Rattle.std.specs.Prelude.{ℕ, ◌+◌, ◌-◌, ◌≡◌, Bool, List, [], ◌∷◌, ltb, length, get_or}
+use Rattle.std.specs.Prelude.{ℕ, ◌+◌, ◌-◌, ◌≡◌, Bool, List, [], ◌∷◌, ltb, length, get_or, Result, MatchResult}
 use Rattle.calendar.specs.declared.data.Constants.{Constants}
+use Rattle.calendar.specs.declared.systems.System.{System}
+use Rattle.calendar.specs.declared.systems.System.TheVariants.{Guantian, Jiyuan, Jingchu}
+use Rattle.calendar.specs.declared.systems.NoSuchSystem.{NoSuchSystem}
+use Rattle.calendar.specs.Inside.{Inside}
 
 -- System 1, Guantian.
 abbrev pub guantian : Constants
@@ -64,6 +68,17 @@ last_system = length systems
 -- effect.
 abbrev pub constants_of : ℕ → Constants
 constants_of system = get_or systems (system - 1) guantian
+
+-- A system's number.
+abbrev pub system_number : System → ℕ
+system_number Guantian = 1
+system_number Jiyuan = 2
+system_number Jingchu = 3
+
+-- What is found by a number: the system that has it; or, where no system has it, the number.
+abbrev pub Numbered : ℕ → Result System NoSuchSystem → Type 0
+Numbered number r =
+    MatchResult r (λ s. system_number s ≡ number) (λ e. (e.0 ≡ number) × (Inside 1 last_system number → ⊥))
 
 -- Row "years elapsed": N at common year A. It rises by one a year; the printed "two" of 002 is corrected.
 -- The sum stands before the difference, so that it is right for every A from 1.

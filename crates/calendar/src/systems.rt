@@ -1,12 +1,36 @@
-// The constants of the systems, which are numbered from 1. Each is a function and no `const`, so that it has a promise: a
-// `const` has no clause.
+// The systems, their numbers and their constants. The constants of each are a function and no `const`, so that they have a
+// promise: a `const` has no clause.
 ghost use Rattle.std.specs.Prelude.{◌≡◌};
-ghost use Rattle.calendar.specs.Systems.{guantian, jiyuan, jingchu};
+ghost use Rattle.calendar.specs.Systems.{guantian, jiyuan, jingchu, Numbered};
 
 use crate::data::Constants;
 
-// The number of the last.
-pub const LAST: u32 = 3;
+#[derive(Clone, Copy, Debug, PartialEq, Eq)]
+pub enum System {
+    Guantian,
+    Jiyuan,
+    Jingchu,
+}
+
+// A number that no system has.
+#[derive(Clone, Copy, Debug, PartialEq, Eq)]
+pub struct NoSuchSystem(pub u32);
+
+impl TryFrom<u32> for System {
+    type Error = NoSuchSystem;
+
+    ghost try_from_gives = { Numbered };
+
+    #[inline(always)]
+    fn try_from(number: u32) -> Result<Self, NoSuchSystem> {
+        match number {
+            1 => Ok(System::Guantian),
+            2 => Ok(System::Jiyuan),
+            3 => Ok(System::Jingchu),
+            _ => Err(NoSuchSystem(number)),
+        }
+    }
+}
 
 // Parts in a day of Guantian, the sun's and the moon's alike.
 pub const GUANTIAN_DAY: u64 = 12_030;

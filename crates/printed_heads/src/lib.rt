@@ -6,6 +6,7 @@ ghost use Rattle.calendar.specs.Systems.{guantian, years_elapsed};
 ghost use Rattle.printed_heads.specs.PrintedHeads.{first_year, on_page, IsHead, Says, printed_head};
 
 use calendar::data::RegisterDay;
+use calendar::systems::System;
 use page::HEADS;
 
 mod page;
@@ -27,7 +28,7 @@ fn entry(i: usize) -> RegisterDay
 fn on_page(system: u32, year: u32) -> bool
     ensures { result ≡ on_page system year }
 {
-    system == 1 && FIRST <= year && year <= LAST
+    System::try_from(system) == Ok(System::Guantian) && FIRST <= year && year <= LAST
 }
 
 // The head of a year of a system, if it is printed.
