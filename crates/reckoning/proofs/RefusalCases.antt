@@ -1,12 +1,14 @@
 -- Refusals: which rule applies, and what an accepted request has.
 use Prim.Native.Nat.{ℕ, ◌≤◌, ◌<◌}
-use mathlib.Core.Path.{◌≡◌, refl, sym, ◌∙◌}
+use mathlib.Core.Path.{◌≡◌, refl, sym, ap, ◌∙◌}
 use mathlib.Core.Bool.{Bool, true, false, true≢false, cond, ◌||◌}
 use lib.Dec.{ltb}
 use native.Mathlib.Omega.{arith}
 use borrow.Author.Tests.{ltb-false, lt-ltb, le-ltb}
 use Rattle.calendar.specs.Inside.{Inside}
-use Rattle.calendar.specs.Systems.{last_system}
+use Rattle.calendar.specs.declared.systems.System.{System}
+use Rattle.calendar.specs.declared.systems.System.TheVariants.{Guantian, Jiyuan, Jingchu}
+use Rattle.calendar.specs.Systems.{last_system, system_number}
 use Rattle.reckoning.specs.Scope.{SystemInScope, YearInScope, InScope}
 use Rattle.reckoning.specs.ComputedRefusals.{outside, no_such_system, out_of_years, year_refusal, step_refusal}
 use Rattle.reckoning.specs.RefusalNumbers.{SYSTEM, YEAR, STEP}
@@ -54,6 +56,12 @@ by_inside {P} least most x out into = go (outside least most x) refl
 
 pub outside_of : (least most x : ℕ) → (Inside least most x → ⊥) → outside least most x ≡ true
 outside_of least most x h = by_inside least most x (λ e out. e) (λ e into. absurd (h into))
+
+-- A number that a system has.
+pub numbered : (s : System) (system : ℕ) → system_number s ≡ system → no_such_system system ≡ false
+numbered Guantian system e = ap no_such_system (sym e)
+numbered Jiyuan system e = ap no_such_system (sym e)
+numbered Jingchu system e = ap no_such_system (sym e)
 
 -- A request by system and year is refused SYSTEM, refused YEAR, or in scope.
 pub by_scope : {P : Type 0} (system year : ℕ)

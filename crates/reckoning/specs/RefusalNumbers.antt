@@ -20,6 +20,10 @@ LENGTH = 3
 abbrev pub SYSTEM : ℕ
 SYSTEM = 4
 
+-- The case itself. By its own name it would not be told from the type `calendar/src/systems.rt: System` in a contract.
+abbrev pub system_refused : Refusal
+system_refused = System
+
 -- The year is out of scope.
 abbrev pub YEAR : ℕ
 YEAR = 5

@@ -9,7 +9,7 @@ use crate::closed_forms::years_elapsed;
 use crate::refusal;
 use crate::refusal::Refusal;
 use calendar::data::Constants;
-use calendar::systems::{guantian, jingchu, jiyuan};
+use calendar::systems::{System, guantian, jingchu, jiyuan};
 
 // Of a request that is not refused: the system's constants and the years elapsed.
 #[derive(Clone, Copy)]
@@ -23,9 +23,9 @@ pub(crate) struct Accepted {
 fn constants_of(system: u32) -> Constants
     ensures { result ≡ constants_of system }
 {
-    match system {
-        2 => jiyuan(),
-        3 => jingchu(),
+    match System::try_from(system) {
+        Ok(System::Jiyuan) => jiyuan(),
+        Ok(System::Jingchu) => jingchu(),
         _ => guantian(),
     }
 }

@@ -7,7 +7,7 @@
 ghost use Rattle.std.specs.Prelude.{◌≡◌, Err};
 ghost use Rattle.calendar.specs.Systems.{constants_of};
 ghost use Rattle.calendar.specs.SixtyDayName.{name_of};
-ghost use Rattle.reckoning.specs.declared.refusal.Refusal.TheVariants.{System};
+ghost use Rattle.reckoning.specs.RefusalNumbers.{system_refused};
 ghost use Rattle.reckoning.specs.Scope.{SystemInScope};
 ghost use Rattle.reckoning.specs.ComputedRefusals.{year_refusal};
 ghost use Rattle.reckoning.specs.Requests.{qi_of, pentad_of, year_of, sheet_of, days_of, year_head_of};
@@ -15,7 +15,7 @@ ghost use Rattle.reckoning.specs.Requests.{answer_unless, no_month, month_silent
 ghost use Rattle.reckoning.specs.Told.{told_moment, told_year, told_sheet, told_days, told_year_head, told_month, told_ordinal_day, told_date, told_pentad};
 
 use calendar::data::{Constants, DayName, Ordinal, RegisterDay};
-use calendar::systems::{guantian, jingchu, jiyuan};
+use calendar::systems::{System, guantian, jingchu, jiyuan};
 use data::{Date, Days, Moment, Month, OrdinalDay, PentadInForce, Sheet, Year};
 use refusal::Refusal;
 
@@ -86,13 +86,12 @@ fn by_system<A, F: FnOnce(Constants) -> Result<A, Refusal>>(
 ) -> Result<A, Refusal>
     requires { F.pre answer (constants_of system) }
     ensures answered { SystemInScope system → F.post answer (constants_of system) result }
-    ensures refused { (SystemInScope system → ⊥) → result ≡ Err System }
+    ensures refused { (SystemInScope system → ⊥) → result ≡ Err system_refused }
 {
-    match system {
-        1 => answer(guantian()),
-        2 => answer(jiyuan()),
-        3 => answer(jingchu()),
-        _ => Err(Refusal::System),
+    match System::try_from(system)? {
+        System::Guantian => answer(guantian()),
+        System::Jiyuan => answer(jiyuan()),
+        System::Jingchu => answer(jingchu()),
     }
 }
 
@@ -110,11 +109,10 @@ fn month_found(system: u32, year: u32, number: u32, leap: u32) -> Result<Month, 
 {
     // Not by `by_system`: so long a closure the compiler does not copy to each system's constants, so that it would have to
     // divide by variables.
-    match system {
-        1 => months::of_common_year(guantian(), year, number, leap),
-        2 => months::of_common_year(jiyuan(), year, number, leap),
-        3 => months::of_common_year(jingchu(), year, number, leap),
-        _ => Err(Refusal::System),
+    match System::try_from(system)? {
+        System::Guantian => months::of_common_year(guantian(), year, number, leap),
+        System::Jiyuan => months::of_common_year(jiyuan(), year, number, leap),
+        System::Jingchu => months::of_common_year(jingchu(), year, number, leap),
     }
 }
 

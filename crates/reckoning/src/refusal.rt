@@ -2,11 +2,11 @@
 // as in include/chiselbrow.h; `of_` functions give the first that applies to a request by system and year. Day is told by
 // the year of a day (`closed_forms::out_of_scope`), and before the epoch by `closed_forms::before_epoch`.
 ghost use Rattle.std.specs.Prelude.{◌≡◌, ◌*◌, ◌^◌};
-ghost use Rattle.reckoning.specs.RefusalNumbers.{number_of, month_told};
+ghost use Rattle.reckoning.specs.RefusalNumbers.{number_of, month_told, system_refused};
 ghost use Rattle.reckoning.specs.ComputedRefusals.{outside, out_of_years, year_refusal, step_refusal};
 ghost use Rattle.reckoning.specs.Told.{told_refusal};
 
-use calendar::systems::LAST;
+use calendar::systems::{NoSuchSystem, System};
 
 #[derive(Clone, Copy, Debug, PartialEq, Eq)]
 pub enum Refusal {
@@ -79,6 +79,15 @@ impl Refusal {
     }
 }
 
+impl From<NoSuchSystem> for Refusal {
+    ghost from_gives = { λ _ refusal. refusal ≡ system_refused };
+
+    #[inline(always)]
+    fn from(_: NoSuchSystem) -> Self {
+        Self::System
+    }
+}
+
 // x is not `least` to `most`.
 pub fn outside(least: u32, most: u32, x: u32) -> bool
     ensures { result ≡ outside least most x }
@@ -96,9 +105,7 @@ pub(crate) fn out_of_years(year: u32) -> bool
 pub(crate) fn of_year(system: u32, year: u32) -> Result<(), Refusal>
     ensures { told_refusal result ≡ year_refusal system year }
 {
-    if outside(1, LAST, system) {
-        return Err(Refusal::System);
-    }
+    System::try_from(system)?;
     if out_of_years(year) {
         return Err(Refusal::Year);
     }
