@@ -13,6 +13,8 @@ ghost use Rattle.text.specs.Decimal.{decimal};
 ghost use Rattle.text.specs.Piece.{word, field, letter_of, year, title, month, numbered, line, last_field, refused_with, refused_line, refused_telling_line};
 ghost use Rattle.text.specs.Put.{Put};
 
+use calendar::systems::System;
+
 mod put;
 
 // Whether an output of that length has fewer than `room` bytes left at a place. The crates of pages test by this, since
@@ -71,11 +73,11 @@ pub fn field(out: &mut [u8], at: usize, n: u32) -> usize
 pub fn letter_of(system: u32) -> u8
     ensures { result ≡ letter_of system }
 {
-    match system {
-        1 => b'G',
-        2 => b'J',
-        3 => b'W',
-        _ => b'?',
+    match System::try_from(system) {
+        Ok(System::Guantian) => b'G',
+        Ok(System::Jiyuan) => b'J',
+        Ok(System::Jingchu) => b'W',
+        Err(_) => b'?',
     }
 }
 
