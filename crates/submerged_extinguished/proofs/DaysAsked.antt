@@ -1,7 +1,6 @@
 -- The days of a year that was asked for, and its months by them.
 use Prim.Native.Nat.{ℕ, ◌+◌, ◌-◌, ◌<◌, ◌≤◌}
 use mathlib.Core.Path.{◌≡◌, refl, subst, subst₂, sym, ap, ap₂, ◌∙◌}
-use mathlib.Core.Bool.{Bool, true, false}
 use mathlib.Core.Logic.{⊎_elim}
 use native.Mathlib.Omega.{arith}
 use borrow.Author.Tests.{lt-ltb, le-ltb}
@@ -12,7 +11,7 @@ use Rattle.calendar.specs.ClosedForms.{month_of_day, first_month, head_of_year}
 use Rattle.calendar.proofs.Laws.{year_months, days_of_twelve, days_of_thirteen}
 use Rattle.calendar.proofs.Spans.{span}
 use Rattle.reckoning.specs.Answers.{DaysAnswer}
-use Rattle.reckoning.specs.ComputedRefusals.{outside, year_refusal}
+use Rattle.reckoning.specs.ComputedRefusals.{year_refusal}
 use Rattle.reckoning.specs.RefusalNumbers.{SYSTEM}
 use Rattle.reckoning.specs.Requests as Requests
 use Rattle.reckoning.specs.Requests.{days_in, days_of}
@@ -20,6 +19,7 @@ use Rattle.reckoning.specs.Scope.{InScope}
 use Rattle.reckoning.specs.WordBounds.{InRegister, YearInRegister, MonthsInRegister}
 use Rattle.reckoning.proofs.AnswerUnless.{by_answer}
 use Rattle.reckoning.proofs.HeadLaws.{month_of_head, is_its_months_head, count_day_lem, head_of}
+use Rattle.reckoning.proofs.RefusalCases.{outside_of}
 use Rattle.reckoning.proofs.RegisterLaws.{first_head, next_head_lem, months_in_register}
 use Rattle.reckoning.proofs.ScopeInRegister.{year_in_register}
 use Rattle.submerged_extinguished.specs.Records.{MoonsAnswer}
@@ -27,7 +27,6 @@ use Rattle.submerged_extinguished.specs.Rules.{last_rule, HasRule, rule_of}
 use Rattle.submerged_extinguished.specs.Answers.{extinguished_from, no_days, extinguished_days_of}
 use Rattle.submerged_extinguished.specs.Moons.{months_in}
 use Rattle.submerged_extinguished.specs.WordBounds.{HeadFits}
-use Rattle.submerged_extinguished.proofs.RuleScope.{rule_tested}
 use Rattle.submerged_extinguished.proofs.ExtinguishedEnds.{no_rule, days_refused, days_answered}
 
 -- Year n within the register: its head is that of its first month, and its months are told by its days.
@@ -68,9 +67,8 @@ module _ (c : Constants) (n : ℕ) (r : YearInRegister c n) where
       simp (le-ltb long 383 much) (sym thirteen))
       (year_months c ok y)
 
-pub returns_no_rule : (system year : ℕ) {b : Bool} {v : MoonsAnswer} → b ≡ outside 1 last_rule system → b ≡ true → v ≡ no_days SYSTEM
-    → v ≡ extinguished_days_of system year
-returns_no_rule system year test out is = is ∙ sym (no_rule system year (sym test ∙ out))
+pub returns_no_rule : (system year : ℕ) → (HasRule system → ⊥) → no_days SYSTEM ≡ extinguished_days_of system year
+returns_no_rule system year none = sym (no_rule system year (outside_of 1 last_rule system none))
 
 -- The days that were asked for: refused, or those of a year in scope.
 module _ (system year : ℕ) {days : DaysAnswer} (asked : days ≡ days_of system year) where
@@ -90,10 +88,7 @@ module _ (system year : ℕ) {days : DaysAnswer} (asked : days ≡ days_of syste
       (λ number e range carried is. refused number e range.at_least carried)
       found
 
-  module _ {b : Bool} (test : b ≡ outside 1 last_rule system) (into : b ≡ false) where
-    has : HasRule system
-    has = rule_tested system test into
-
+  module _ (has : HasRule system) where
     pub returns_refusal : {v : MoonsAnswer} → (days.refusal ≡ 0 → ⊥) → v ≡ no_days days.refusal
         → v ≡ extinguished_days_of system year
     returns_refusal some is =

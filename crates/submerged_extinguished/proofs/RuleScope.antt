@@ -1,16 +1,13 @@
 -- A system that has a rule, and a year in scope: what either request is judged by first.
 use Prim.Native.Nat.{ℕ}
-use mathlib.Core.Path.{◌≡◌, sym, ◌∙◌}
-use mathlib.Core.Bool.{Bool, true, false}
+use mathlib.Core.Path.{◌≡◌}
+use mathlib.Core.Bool.{true}
 use native.Mathlib.Omega.{arith}
 use Rattle.reckoning.specs.ComputedRefusals.{outside, year_refusal}
 use Rattle.reckoning.specs.RefusalNumbers.{YEAR}
 use Rattle.reckoning.specs.Scope.{YearInScope, InScope}
-use Rattle.reckoning.proofs.RefusalCases.{by_inside, by_scope, inside_of}
+use Rattle.reckoning.proofs.RefusalCases.{by_inside, by_scope}
 use Rattle.submerged_extinguished.specs.Rules.{last_rule, HasRule}
-
-pub rule_tested : (system : ℕ) {b : Bool} → b ≡ outside 1 last_rule system → b ≡ false → HasRule system
-rule_tested system test into = inside_of 1 last_rule system (sym test ∙ into)
 
 -- A request has no rule, or no year, or is in scope.
 pub by_rule : {P : Type 0} (system year : ℕ)

@@ -1,7 +1,7 @@
 -- How the request for a submerged day ends, in the paper's words.
 use Prim.Native.Nat.{ℕ, ◌*◌, ◌≤◌, ◌<◌}
 use mathlib.Core.Path.{◌≡◌, refl, subst, sym, ap, ◌∙◌}
-use mathlib.Core.Bool.{Bool, true, false}
+use mathlib.Core.Bool.{true}
 use native.Mathlib.Omega.{arith}
 use borrow.Author.Tests.{eq-eqb, ne_eqb}
 use Rattle.std.proofs.Common.{Option}
@@ -13,7 +13,7 @@ use Rattle.reckoning.specs.ComputedRefusals.{outside, qi_refusal}
 use Rattle.reckoning.specs.RefusalNumbers.{SYSTEM, YEAR, STEP}
 use Rattle.reckoning.specs.Requests.{qi_of}
 use Rattle.reckoning.specs.Scope.{InScope}
-use Rattle.reckoning.proofs.RefusalCases.{inside, step_unseen, step_refused, accepted_step}
+use Rattle.reckoning.proofs.RefusalCases.{inside, outside_of, step_unseen, step_refused, accepted_step}
 use Rattle.reckoning.proofs.RefusedRequests.{qi_blank}
 use Rattle.reckoning.proofs.AnswersRight.{qi_holds}
 use Rattle.submerged_extinguished.specs.Records.{DayAnswer}
@@ -24,7 +24,7 @@ use Rattle.submerged_extinguished.specs.Answers.{submerged_in, submerged_of}
 use Rattle.submerged_extinguished.specs.Outcomes as O
 use Rattle.submerged_extinguished.proofs.RuleLaws.{remainder_below, submerged_says}
 use Rattle.submerged_extinguished.proofs.EachRule.{rule_holds}
-use Rattle.submerged_extinguished.proofs.RuleScope.{rule_tested, by_rule}
+use Rattle.submerged_extinguished.proofs.RuleScope.{by_rule}
 
 abbrev answer_by : ℕ → MomentAnswer → DayAnswer
 answer_by system qi = answer_at qi.day (submerged_after system qi.parts qi.units)
@@ -126,20 +126,20 @@ pub promised : {v : DayAnswer} (system year i : ℕ) → v ≡ submerged_of syst
     → (v ≡ submerged_of system year i) × O.SubmergedOutcome system year i v
 promised system year i is = (is, subst (O.SubmergedOutcome system year i) (sym is) (submerged_outcome system year i))
 
-module _ (system year i : ℕ) {b : Bool} (test : b ≡ outside 1 last_rule system) where
-  pub no_rule : {v : DayAnswer} → b ≡ true → v ≡ no_answer SYSTEM → v ≡ submerged_of system year i
-  no_rule out is = is ∙ sym (no_rule_blank system (qi_of system year i) (sym test ∙ out))
+module _ (system year i : ℕ) where
+  pub no_rule : (HasRule system → ⊥) → no_answer SYSTEM ≡ submerged_of system year i
+  no_rule none = sym (no_rule_blank system (qi_of system year i) (outside_of 1 last_rule system none))
 
-  module _ {qi : MomentAnswer} (asked : qi ≡ qi_of system year i) (into : b ≡ false) where
+  module _ {qi : MomentAnswer} (asked : qi ≡ qi_of system year i) (has : HasRule system) where
     pub returns_refusal : {v : DayAnswer} → (qi.refusal ≡ 0 → ⊥) → v ≡ no_answer qi.refusal → v ≡ submerged_of system year i
     returns_refusal some is =
-        is ∙ sym (refused_as system (rule_tested system test into) qi qi.refusal refl some) ∙ ap (submerged_in system) asked
+        is ∙ sym (refused_as system has qi qi.refusal refl some) ∙ ap (submerged_in system) asked
 
     pub returns_distance : {d : Option ℕ} → qi.refusal ≡ 0 → d ≡ submerged_after system qi.parts qi.units
         → answer_at qi.day d ≡ submerged_of system year i
     returns_distance none is =
         ap (answer_at qi.day) is
-        ∙ sym (answered_as system (rule_tested system test into) qi none)
+        ∙ sym (answered_as system has qi none)
         ∙ ap (submerged_in system) asked
 
     -- A qi that was answered has parts and small units below their bounds.
@@ -150,4 +150,4 @@ module _ (system year i : ℕ) {b : Bool} (test : b ≡ outside 1 last_rule syst
         let is = qi_holds system year given.0 i given.1 in
         let parts = ap (λ m. m.parts) asked in
         let units = ap (λ m. m.units) asked in
-        (rule_tested system test into, omega (arith, is.parts_below), omega (arith, is.units_below))
+        (has, omega (arith, is.parts_below), omega (arith, is.units_below))

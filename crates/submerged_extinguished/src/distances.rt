@@ -1,11 +1,12 @@
 // The distance of a submerged day by the remainder of its qi, and of an extinguished day by that of its new moon.
 ghost use Rattle.std.specs.Prelude.{◌≡◌, ◌<◌};
-ghost use Rattle.calendar.specs.Systems.{constants_of};
+ghost use Rattle.calendar.specs.Systems.{constants_of, system_number};
 ghost use Rattle.submerged_extinguished.specs.Rules.{HasRule};
 ghost use Rattle.submerged_extinguished.specs.Answers.{exact_remainder, submerged_by, submerged_after, extinguished_by};
 
 use crate::rules;
 use crate::rules::Numbers;
+use calendar::systems::System;
 
 impl Numbers {
     // After a qi with a remainder of so many parts and small units. All in small units, so that nothing is rounded before
@@ -42,12 +43,14 @@ impl Numbers {
 }
 
 // The systems are named one by one, so that the compiler knows the divisors.
-pub(crate) fn submerged(system: u32, parts: u32, units: u32) -> Option<u8>
-    requires { HasRule system × (parts < (constants_of system).solar) × (units < (constants_of system).units) }
-    ensures { result ≡ submerged_after system parts units }
+pub(crate) fn submerged(system: System, parts: u32, units: u32) -> Option<u8>
+    requires { HasRule (system_number system)
+        × (parts < (constants_of (system_number system)).solar)
+        × (units < (constants_of (system_number system)).units) }
+    ensures { result ≡ submerged_after (system_number system) parts units }
 {
     match system {
-        2 => rules::jiyuan().submerged(parts, units),
+        System::Jiyuan => rules::jiyuan().submerged(parts, units),
         _ => rules::guantian().submerged(parts, units),
     }
 }

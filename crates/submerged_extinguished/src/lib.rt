@@ -19,13 +19,11 @@ mod rules;
 pub fn submerged(system: u32, year: u32, i: u32) -> Result<Answer, Refusal>
     ensures { (told_day result ≡ submerged_of system year i) × SubmergedOutcome system year i (told_day result) }
 {
-    if outside(1, rules::LAST, system) {
-        return Err(Refusal::System);
-    }
+    let ruled = rules::with_rule(system)?;
     let qi = reckoning::qi(system, year, i)?;
     Ok(Answer {
         day: qi.day,
-        distance: distances::submerged(system, qi.parts, qi.units),
+        distance: distances::submerged(ruled, qi.parts, qi.units),
     })
 }
 
@@ -33,12 +31,10 @@ pub fn submerged(system: u32, year: u32, i: u32) -> Result<Answer, Refusal>
 pub fn extinguished_days(system: u32, year: u32) -> Result<ExtinguishedDays, Refusal>
     ensures { told_moons result ≡ extinguished_days_of system year }
 {
-    if outside(1, rules::LAST, system) {
-        return Err(Refusal::System);
-    }
+    let ruled = rules::with_rule(system)?;
     let days = reckoning::days(system, year)?;
     let count = moons::months_in(days.length);
-    Ok(moons::of_months(system, days.head, count))
+    Ok(moons::of_months(ruled, days.head, count))
 }
 
 // The extinguished day of the new moon at a place of a year, from 1. Refused System, then Year, then Day for a place that

@@ -1,6 +1,6 @@
 // The new moons of a year, each from the one before it, with no division.
 ghost use Rattle.std.specs.Prelude.{◌≡◌};
-ghost use Rattle.calendar.specs.Systems.{count_day, constants_of};
+ghost use Rattle.calendar.specs.Systems.{count_day, constants_of, system_number};
 ghost use Rattle.calendar.specs.ClosedForms.{month_of_day};
 ghost use Rattle.reckoning.specs.WordBounds.{MonthsInRegister};
 ghost use Rattle.submerged_extinguished.specs.Answers.{unused, extinguished_from};
@@ -13,6 +13,7 @@ use crate::data::{Extinguished, ExtinguishedDays};
 use crate::rules;
 use crate::rules::Numbers;
 use calendar::data::RegisterDay;
+use calendar::systems::System;
 
 // A new moon: its register day and its remainder.
 #[derive(Clone, Copy)]
@@ -104,14 +105,14 @@ pub(crate) fn months_in(length: u16) -> usize
 }
 
 // Those of a system's months. The systems are named one by one, so that the compiler knows the divisors.
-pub(crate) fn of_months(system: u32, head: RegisterDay, count: usize) -> ExtinguishedDays
-    requires { HasRule system
-        × HeadFits (constants_of system) head.0
-        × MonthsInRegister (constants_of system) (month_of_day (constants_of system) (count_day (constants_of system) head.0)) count }
-    ensures { moons_answered result ≡ extinguished_from (constants_of system) (rule_of system) (month_of_day (constants_of system) (count_day (constants_of system) head.0)) count }
+pub(crate) fn of_months(system: System, head: RegisterDay, count: usize) -> ExtinguishedDays
+    requires { HasRule (system_number system)
+        × HeadFits (constants_of (system_number system)) head.0
+        × MonthsInRegister (constants_of (system_number system)) (month_of_day (constants_of (system_number system)) (count_day (constants_of (system_number system)) head.0)) count }
+    ensures { moons_answered result ≡ extinguished_from (constants_of (system_number system)) (rule_of (system_number system)) (month_of_day (constants_of (system_number system)) (count_day (constants_of (system_number system)) head.0)) count }
 {
     match system {
-        2 => rules::jiyuan().extinguished_days(head, count),
+        System::Jiyuan => rules::jiyuan().extinguished_days(head, count),
         _ => rules::guantian().extinguished_days(head, count),
     }
 }

@@ -1,13 +1,14 @@
-// The numbers of the rules for submerged and extinguished days, of the systems that have them: those numbered 1 to LAST.
-ghost use Rattle.std.specs.Prelude.{◌≡◌};
-ghost use Rattle.calendar.specs.Systems.{guantian, jiyuan};
-ghost use Rattle.submerged_extinguished.specs.Rules.{guantian_rule, jiyuan_rule};
+// The numbers of the rules for submerged and extinguished days, of the systems that have them.
+ghost use Rattle.std.specs.Prelude.{◌≡◌, MatchResult};
+ghost use Rattle.calendar.specs.Systems.{guantian, jiyuan, system_number};
+ghost use Rattle.reckoning.specs.RefusalNumbers.{system_refused};
+ghost use Rattle.submerged_extinguished.specs.Rules.{guantian_rule, jiyuan_rule, HasRule};
 ghost use Rattle.submerged_extinguished.specs.WordBounds.{RuleFits};
 
 use calendar::data::Constants;
 use calendar::systems;
-
-pub(crate) const LAST: u32 = 2;
+use calendar::systems::System;
+use reckoning::refusal::Refusal;
 
 // All that differs between the systems.
 #[derive(Clone, Copy)]
@@ -28,6 +29,18 @@ pub(crate) struct Numbers {
     pub constants: Constants,
     pub rule: Rule,
     ghost fits: { RuleFits constants rule },
+}
+
+// The system with a number, where it has a rule; refused System where it has none.
+pub(crate) fn with_rule(system: u32) -> Result<System, Refusal>
+    ensures { MatchResult result
+        (λ s. (system_number s ≡ system) × HasRule system)
+        (λ refusal. (refusal ≡ system_refused) × (HasRule system → ⊥)) }
+{
+    match System::try_from(system)? {
+        System::Jingchu => Err(Refusal::System),
+        ruled => Ok(ruled),
+    }
 }
 
 // Each of the two requests picks the system by a `match` of its own: a function that handed the numbers to a closure would
