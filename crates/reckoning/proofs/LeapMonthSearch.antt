@@ -6,6 +6,7 @@ use lib.Dec.{ltb}
 use native.Mathlib.Omega.{arith}
 use borrow.Author.Tests.{lt-ltb, le-ltb}
 use Rattle.calendar.specs.declared.data.Constants.{Constants}
+use Rattle.calendar.specs.Systems.{years_elapsed}
 use Rattle.calendar.specs.Month.{month_head, number_of}
 use Rattle.calendar.specs.ClosedForms.{day_of_qi, month_of_qi, first_month}
 use Rattle.calendar.specs.LeapMonth.{leap_number, no_leap_up_to, LeapBetween}
@@ -15,7 +16,7 @@ use Rattle.calendar.proofs.EveryCalendar.{first_rises}
 use Rattle.calendar.proofs.LeapMonths.{number_before_leap, number_past_year}
 use Rattle.reckoning.specs.declared.month_spans.MonthSpan.{MonthSpan}
 use Rattle.reckoning.specs.MonthSpans.{month_span}
-use Rattle.reckoning.specs.WordBounds.{FirstMonthFits, YearInRegister}
+use Rattle.reckoning.specs.WordBounds.{FirstMonthFits, YearInRegister, YearsInRegister}
 
 -- A middle qi falls before the end of a month just when its own month is no later.
 pub leap_tested : {c : Constants} {n first : ℕ} → FirstMonthFits c n first → (i : ℕ) {day end : ℕ}
@@ -65,10 +66,12 @@ module _ {c : Constants} {n : ℕ} (r : YearInRegister c n) where
         small = omega (arith, r.months, first_rises (reckoned c r.constants_fit.consistent) n);
       }
 
-  -- What the last middle qi before it tells.
-  pub told_none : {last : ℕ} → LeapBetween c n last (last + 1) → 12 ≤ last → 0 ≡ leap_number c n
-  told_none s l = number_past_year c r.constants_fit.consistent n _ s l
+-- What the last middle qi before it tells.
+module _ {c : Constants} (fits : YearsInRegister c) (year : ℕ) {n last : ℕ} (is : n ≡ years_elapsed c year)
+    (s : LeapBetween c n last (last + 1))
+  where
+    pub told_none : 12 ≤ last → 0 ≡ leap_number c (years_elapsed c year)
+    told_none l = number_past_year c fits.constants_fit.consistent n _ s l ∙ ap (leap_number c) is
 
-  pub told_number : {last number : ℕ} → LeapBetween c n last (last + 1) → last < 12 → number ≡ number_of (last % 12)
-      → number ≡ leap_number c n
-  told_number s l is = is ∙ number_before_leap c r.constants_fit.consistent n _ s l
+    pub told_number : last < 12 → {number : ℕ} → number ≡ number_of (last % 12) → number ≡ leap_number c (years_elapsed c year)
+    told_number l e = e ∙ number_before_leap c fits.constants_fit.consistent n _ s l ∙ ap (leap_number c) is

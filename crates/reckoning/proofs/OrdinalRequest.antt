@@ -1,11 +1,11 @@
 -- The day of a year by its ordinal: its numbers fit, and its month's last middle qi tells whether the year has it.
 use Prim.Native.Nat.{ℕ, ◌+◌, ◌*◌, ◌-◌, ◌%◌, ◌^◌, ◌≤◌, ◌<◌}
-use mathlib.Core.Path.{◌≡◌, refl, ap, sym, ◌∙◌}
+use mathlib.Core.Path.{◌≡◌, refl, ap, sym, subst, ◌∙◌}
 use native.Mathlib.Omega.{arith}
 use Rattle.calendar.specs.declared.data.Constants.{Constants}
 use Rattle.calendar.specs.declared.data.RegisterDay.{RegisterDay}
 use Rattle.calendar.specs.Inside.{Inside}
-use Rattle.calendar.specs.Systems.{constants_of, years_elapsed, register_day}
+use Rattle.calendar.specs.Systems.{constants_of, years_elapsed, register_day, count_day}
 use Rattle.calendar.specs.Month.{month_head, number_of}
 use Rattle.calendar.specs.Calendar.{Calendar}
 use Rattle.calendar.specs.ClosedForms.{month_of_day, qi_of_month, head_of_year, register_head}
@@ -14,16 +14,17 @@ use Rattle.calendar.proofs.Reckoned.{reckoned}
 use Rattle.calendar.proofs.EveryCalendar.{year_from, year_before}
 use Rattle.reckoning.specs.Answers.{YearHeadAnswer, OrdinalAnswer}
 use Rattle.reckoning.specs.ComputedRefusals.{year_refusal}
-use Rattle.reckoning.specs.Scope.{InScope}
+use Rattle.reckoning.specs.Scope.{YearInScope, InScope}
 use Rattle.reckoning.specs.declared.month_spans.MonthSpan.{MonthSpan}
 use Rattle.reckoning.specs.declared.month_spans.LastQi.{LastQi}
 use Rattle.reckoning.specs.MonthSpans.{month_span, last_qi}
 use Rattle.reckoning.specs.RefusalNumbers.{YEAR, DAY}
 use Rattle.reckoning.specs.Requests.{as_register_day, year_head_in, no_year_head, year_head_of, ordinal_day_at, no_ordinal_day, ordinal_day_in, ordinal_day_of}
-use Rattle.reckoning.specs.WordBounds.{InRegister, YearInRegister}
+use Rattle.reckoning.specs.WordBounds.{InRegister, YearInRegister, YearsInRegister}
 use Rattle.reckoning.proofs.RefusalCases.{inside, outside_of}
 use Rattle.reckoning.proofs.AnswerUnless.{refused_year, answered_year, by_answer}
-use Rattle.reckoning.proofs.RegisterLaws.{first_head, next_head_lem}
+use Rattle.reckoning.proofs.RegisterLaws.{year_asked, first_head, next_head_lem}
+use Rattle.reckoning.proofs.HeadLaws.{head_of, count_day_lem}
 
 -- No ordinal is 0.
 pub no_ordinal : (c : Constants) (n : ℕ) {ordinal : ℕ} → ordinal ≡ 0 → no_ordinal_day DAY ≡ ordinal_day_in ordinal c n
@@ -32,69 +33,83 @@ no_ordinal c n {ordinal} none =
     simp (outside_of 1 (head_of_year c (n + 1) - head_of_year c n) ordinal (λ i. omega (arith, i.at_least)))
 
 -- One from 1 on, counted from the head.
-module _ {c : Constants} {n ordinal : ℕ} (y : YearInRegister c n) (some : 0 < ordinal) {head : ℕ} (from : head ≡ head_of_year c n) where
-  abbrev d : ℕ
-  d = head + ordinal - 1
+module _ {c : Constants} (fits : YearsInRegister c) {year ordinal : ℕ} (s : YearInScope year) {first : RegisterDay}
+    (first_is : first ≡ register_head c (years_elapsed c year))
+    (some : 0 < ordinal)
+    {n : ℕ}
+    (years : n ≡ years_elapsed c year)
+    {head : ℕ}
+    (counted : head ≡ count_day c first.0)
+  where
+    y : YearInRegister c n
+    y = year_asked fits s years
 
-  pub day_small : ordinal < 2 ^ 16 → d + 1 < 2 ^ 36
-  day_small small = omega (arith, first_head c n y, y.constants_fit)
+    from : head ≡ head_of_year c n
+    from = counted ∙ count_day_lem (head_of (fits.in_register year s)) first_is ∙ ap (head_of_year c) (sym years)
 
-  module _ {m : MonthSpan} {last : LastQi} (month : m ≡ month_span c (month_of_day c d)) (qi : last ≡ last_qi c m.month) where
-    abbrev K : Calendar
-    K = reckoned c y.constants_fit.consistent
+    abbrev d : ℕ
+    d = head + ordinal - 1
 
-    abbrev k : ℕ
-    k = month_of_day c d
+    pub day_small : ordinal < 2 ^ 16 → d + 1 < 2 ^ 36
+    day_small small = omega (arith, from, first_head c n y, y.constants_fit)
 
-    last_is : last ≡ last_qi c k
-    last_is = qi ∙ ap (λ x. last_qi c x.month) month
+    module _ {m : MonthSpan} {last : LastQi} (month : m ≡ month_span c (month_of_day c d)) (qi : last ≡ last_qi c m.month) where
+      abbrev K : Calendar
+      K = reckoned c y.constants_fit.consistent
 
-    qi_is : last.qi ≡ qi_of_month c k
-    qi_is = ap (λ x. x.qi) last_is
+      abbrev k : ℕ
+      k = month_of_day c d
 
-    pub qi_from : 12 * n ≤ last.qi
-    qi_from = omega (arith, qi_is, year_from K n d (omega arith))
+      last_is : last ≡ last_qi c k
+      last_is = qi ∙ ap (λ x. last_qi c x.month) month
 
-    -- Past the year it has a middle qi of a later one.
-    pub ordinal_past : 12 ≤ last.qi - 12 * n → no_ordinal_day DAY ≡ ordinal_day_in ordinal c n
-    unfolding ordinal_day_in
-    ordinal_past h =
-        let past : head_of_year c (n + 1) ≤ d =
-        by_order d (head_of_year c (n + 1)) (λ l. absurd (omega (arith, qi_is, year_before K (n + 1) d l))) (λ l. l)
-        in
-        simp (outside_of 1 (head_of_year c (n + 1) - head_of_year c n) ordinal (λ i. omega (arith, i.at_most)))
+      qi_is : last.qi ≡ qi_of_month c k
+      qi_is = ap (λ x. x.qi) last_is
 
-    -- In the year it has one of its own.
-    module _ (h : last.qi - 12 * n < 12) where
-      before_next : d < head_of_year c (n + 1)
-      before_next =
-          by_order d (head_of_year c (n + 1)) (λ l. l) (λ l. absurd (omega (arith, qi_is, year_from K (n + 1) d l)))
+      pub qi_from : 12 * n ≤ last.qi
+      qi_from = omega (arith, qi_is, year_from K n d (omega (arith, from)))
 
-      pub ordinal_in_register : InRegister c d
-      ordinal_in_register = omega (arith, first_head c n y, next_head_lem c n y, before_next)
-
-      pub ordinal_found : {day : RegisterDay} {number : ℕ} → day ≡ as_register_day (register_day c d)
-          → number ≡ number_of (last.qi - 12 * n)
-          → record { refusal = 0; day = day; month = number; leap = last.leap; place = d - m.head + 1 } ≡ ordinal_day_in ordinal c n
+      -- Past the year it has a middle qi of a later one.
+      pub ordinal_past : 12 ≤ last.qi - 12 * n → no_ordinal_day DAY ≡ ordinal_day_in ordinal c (years_elapsed c year)
       unfolding ordinal_day_in
-      ordinal_found day_is number_is =
-          let head_is : m.head ≡ month_head c k = ap (λ x. x.head) month in
-          let index : last.qi - 12 * n ≡ qi_of_month c k % 12 = omega (arith, qi_is, qi_from) in
-          let number_here = number_is ∙ ap number_of index in
-          let here : d ≡ head_of_year c n + ordinal - 1 = omega arith in
-          let there = inside 1 (head_of_year c (n + 1) - head_of_year c n) ordinal
-          (record { at_least = omega arith; at_most = omega (arith, before_next) })
+      ordinal_past h =
+          let past : head_of_year c (n + 1) ≤ d =
+          by_order d (head_of_year c (n + 1)) (λ l. absurd (omega (arith, qi_is, year_before K (n + 1) d l))) (λ l. l)
           in
-          (λ j.
-          record {
-            refusal = 0;
-            day = day_is j;
-            month = number_here j;
-            leap = (last_is j).leap;
-            place = d - head_is j + 1;
-          })
-          ∙ ap (ordinal_day_at c) here
-          ∙ simp there
+          subst (λ m. no_ordinal_day DAY ≡ ordinal_day_in ordinal c m) years
+          (simp (outside_of 1 (head_of_year c (n + 1) - head_of_year c n) ordinal (λ i. omega (arith, from, i.at_most))))
+
+      -- In the year it has one of its own.
+      module _ (h : last.qi - 12 * n < 12) where
+        before_next : d < head_of_year c (n + 1)
+        before_next =
+            by_order d (head_of_year c (n + 1)) (λ l. l) (λ l. absurd (omega (arith, qi_is, year_from K (n + 1) d l)))
+
+        pub ordinal_in_register : InRegister c d
+        ordinal_in_register = omega (arith, from, first_head c n y, next_head_lem c n y, before_next)
+
+        pub ordinal_found : {day : RegisterDay} {number : ℕ} → day ≡ as_register_day (register_day c d)
+            → number ≡ number_of (last.qi - 12 * n)
+            → record { refusal = 0; day = day; month = number; leap = last.leap; place = d - m.head + 1 } ≡ ordinal_day_in ordinal c (years_elapsed c year)
+        unfolding ordinal_day_in
+        ordinal_found day_is number_is =
+            let head_is : m.head ≡ month_head c k = ap (λ x. x.head) month in
+            let index : last.qi - 12 * n ≡ qi_of_month c k % 12 = omega (arith, qi_is, qi_from) in
+            let number_here = number_is ∙ ap number_of index in
+            let here : d ≡ head_of_year c n + ordinal - 1 = omega (arith, from) in
+            let there = inside 1 (head_of_year c (n + 1) - head_of_year c n) ordinal
+            (record { at_least = omega arith; at_most = omega (arith, from, before_next) })
+            in
+            (λ j.
+            record {
+              refusal = 0;
+              day = day_is j;
+              month = number_here j;
+              leap = (last_is j).leap;
+              place = d - head_is j + 1;
+            })
+            ∙ ap (ordinal_day_at c) here
+            ∙ subst (λ x. ordinal_day_at c (head_of_year c n + ordinal - 1) ≡ ordinal_day_in ordinal c x) years (simp there)
 
 -- The whole request, from the year's head.
 module _ (system year ordinal : ℕ) {h : YearHeadAnswer} (is : h ≡ year_head_of system year) where

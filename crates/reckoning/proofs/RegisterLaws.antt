@@ -3,7 +3,7 @@ use Prim.Native.Nat.{ℕ, ◌+◌, ◌-◌, ◌^◌, ◌≤◌, ◌<◌}
 use mathlib.Core.Path.{◌≡◌, subst, sym}
 use native.Mathlib.Omega.{arith}
 use Rattle.calendar.specs.declared.data.Constants.{Constants}
-use Rattle.calendar.specs.Systems.{register_day}
+use Rattle.calendar.specs.Systems.{years_elapsed, register_day}
 use Rattle.calendar.specs.ClosedForms.{first_month, head_of_year}
 use Rattle.calendar.specs.Consistent.{Consistent}
 use Rattle.calendar.specs.Calendar.{Calendar}
@@ -13,8 +13,14 @@ use Rattle.calendar.proofs.Spans.{span}
 use Rattle.calendar.proofs.Laws.{year_length_most}
 use Rattle.reckoning.specs.declared.month_spans.MonthSpan.{MonthSpan}
 use Rattle.reckoning.specs.MonthSpans.{month_span}
-use Rattle.reckoning.specs.WordBounds.{InRegister, SpanFits, YearInRegister, MonthsInRegister}
+use Rattle.reckoning.specs.Scope.{YearInScope}
+use Rattle.reckoning.specs.WordBounds.{InRegister, SpanFits, YearInRegister, YearsInRegister, MonthsInRegister}
 use Rattle.reckoning.proofs.MonthSpanLaws.{span_fits}
+
+-- Years elapsed at a year in scope.
+pub year_asked : {c : Constants} → YearsInRegister c → {year n : ℕ} → YearInScope year → n ≡ years_elapsed c year
+    → YearInRegister c n
+year_asked {c} fits {year} s is = subst (YearInRegister c) (sym is) (fits.in_register year s)
 
 module _ (c : Constants) (n : ℕ) (r : YearInRegister c n) where
   abbrev ok : Consistent c

@@ -6,11 +6,12 @@ use native.Mathlib.Omega.{arith}
 use mir.Syntax.{w64}
 use mir.Val.{Fits}
 use Rattle.calendar.specs.declared.data.Constants.{Constants}
+use Rattle.calendar.specs.Systems.{years_elapsed}
 use Rattle.calendar.specs.Steps.{solstice, DividesYear, moment}
 use Rattle.calendar.specs.Consistent.{Consistent}
 use Rattle.calendar.proofs.Steps.{steps_close, moments_rise, steps_in_year}
 use Rattle.reckoning.specs.Answers.{MomentAnswer}
-use Rattle.reckoning.specs.declared.asked.Accepted.{Accepted}
+use Rattle.reckoning.specs.declared.calendars.Accepted.{Accepted}
 use Rattle.reckoning.specs.declared.refusal.Refusal.{Refusal}
 use Rattle.reckoning.specs.ComputedRefusals.{step_refusal}
 use Rattle.reckoning.specs.Divisions.{Division, qis, pentads}
@@ -116,10 +117,10 @@ module _ (division : Division) (system year i : ℕ) where
   refuses_step r e =
       refused (λ c n. step_in division.steps (division.units c) i c n) no_moment (asked_of (number_of r) system year) _ e (number_not_0 r)
 
-  pub answers_step : {asked : Accepted} {v : MomentAnswer}
+  pub answers_step : (asked : Accepted) {v : MomentAnswer}
       → accepted_as asked ≡ asked_of (step_refusal division.last system year i) system year
-      → v ≡ step_in division.steps (division.units asked.c) i asked.c asked.n
+      → v ≡ step_in division.steps (division.units asked.calendar.c) i asked.calendar.c (years_elapsed asked.calendar.c asked.year)
       → v ≡ step_of division system year i
   unfolding step_of
-  answers_step {asked} e is =
+  answers_step asked e is =
       is ∙ answered (λ c n. step_in division.steps (division.units c) i c n) no_moment (accepted_as asked) _ e refl

@@ -2,7 +2,8 @@
 -- number.
 use Rattle.std.specs.Prelude.{ℕ, Result, Ok, Err}
 use Rattle.calendar.specs.declared.data.RegisterDay.{RegisterDay}
-use Rattle.reckoning.specs.declared.asked.Accepted.{Accepted}
+use Rattle.calendar.specs.Systems.{years_elapsed}
+use Rattle.reckoning.specs.declared.calendars.Accepted.{Accepted}
 use Rattle.reckoning.specs.declared.data.Moment.{Moment}
 use Rattle.reckoning.specs.declared.data.PentadInForce.{PentadInForce}
 use Rattle.reckoning.specs.declared.data.Year.{Year}
@@ -27,7 +28,7 @@ told_refusal r = told (λ a. 0) number_of r
 
 -- What a request by system and year stands on.
 abbrev pub accepted_as : Accepted → Asked
-accepted_as a = record { refusal = 0; c = a.c; n = a.n }
+accepted_as a = record { refusal = 0; c = a.calendar.c; n = years_elapsed a.calendar.c a.year }
 
 abbrev pub told_asked : ℕ → ℕ → Result Accepted Refusal → Asked
 told_asked system year r = told accepted_as (λ e. asked_of (number_of e) system year) r

@@ -3,20 +3,14 @@ ghost use Rattle.std.specs.Prelude.{◌≡◌};
 ghost use Rattle.calendar.specs.Systems.{constants_of};
 ghost use Rattle.reckoning.specs.Asked.{asked_of};
 ghost use Rattle.reckoning.specs.ComputedRefusals.{year_refusal, step_refusal};
+ghost use Rattle.reckoning.specs.Scope.{YearInScope};
 ghost use Rattle.reckoning.specs.Told.{accepted_as, told_asked};
 
-use crate::closed_forms::years_elapsed;
+use crate::calendars::{Accepted, Calendar};
 use crate::refusal;
 use crate::refusal::Refusal;
 use calendar::data::Constants;
 use calendar::systems::{System, guantian, jingchu, jiyuan};
-
-// Of a request that is not refused: the system's constants and the years elapsed.
-#[derive(Clone, Copy)]
-pub(crate) struct Accepted {
-    pub c: Constants,
-    pub n: u64,
-}
 
 // The constants that a system's number picks. One that is no system's picks the first system's; its request is refused
 // before.
@@ -31,11 +25,13 @@ fn constants_of(system: u32) -> Constants
 }
 
 fn accept(system: u32, year: u32) -> Accepted
+    requires { YearInScope year }
     ensures { accepted_as result ≡ asked_of 0 system year }
 {
-    let c = constants_of(system);
-    let n = years_elapsed(c, year);
-    Accepted { c: c, n: n }
+    Accepted {
+        calendar: Calendar::of(system, constants_of(system)),
+        year: year,
+    }
 }
 
 pub(crate) fn of_year(system: u32, year: u32) -> Result<Accepted, Refusal>

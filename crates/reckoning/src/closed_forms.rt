@@ -6,10 +6,11 @@ ghost use Rattle.calendar.specs.Month.{month_head, number_of};
 ghost use Rattle.calendar.specs.ClosedForms.{day_of_qi, held_by};
 ghost use Rattle.reckoning.specs.CommonYears.{common_year, out_of_scope};
 ghost use Rattle.reckoning.specs.LastSteps.{last_step};
-ghost use Rattle.reckoning.specs.WordBounds.{ConstantsFit, LastStepFits, InRegister};
+ghost use Rattle.reckoning.specs.WordBounds.{LastStepFits, InRegister};
 
+use crate::calendars::Calendar;
 use crate::data::NONE_HELD;
-use calendar::data::{Constants, RegisterDay};
+use calendar::data::RegisterDay;
 
 // A step counted on from the epoch, and what the division that finds it leaves over.
 #[derive(Clone, Copy)]
@@ -18,82 +19,82 @@ pub(crate) struct LastStep {
     pub left: u64,
 }
 
-// Years elapsed, N, at a common year.
-pub(crate) fn years_elapsed(c: Constants, year: u32) -> u64
-    requires { ConstantsFit c }
-    ensures { result ≡ years_elapsed c year }
-{
-    c.elapsed + year as u64 - c.common
-}
-
-// The register day of a count day.
-pub(crate) fn register_day(c: Constants, d: u64) -> RegisterDay
-    requires { InRegister c d }
-    ensures { result ≡ record { 0 = register_day c d } }
-{
-    RegisterDay((d + c.epoch - c.anchor) as u32)
-}
-
-// Whether a register day has no count day, since it lies before the epoch.
-pub(crate) fn before_epoch(c: Constants, day: RegisterDay) -> bool
-    requires { ConstantsFit c }
-    ensures { result ≡ before_epoch c day.0 }
-{
-    day.0 as u64 + c.anchor < c.epoch
-}
-
-// The count day of a register day.
-pub(crate) fn count_day(c: Constants, day: RegisterDay) -> u64
-    requires { ConstantsFit c × (before_epoch c day.0 ≡ false) }
-    ensures { result ≡ count_day c day.0 }
-{
-    day.0 as u64 + c.anchor - c.epoch
-}
-
-// The first count day of month k.
-pub(crate) fn month_head(c: Constants, k: u64) -> u64
-    requires { ConstantsFit c × (k < 2 ^ 32) }
-    ensures { result ≡ month_head c k }
-{
-    k * c.month / c.lunar
-}
-
-// The count day of middle qi g, counted on from the epoch.
-pub(crate) fn day_of_qi(c: Constants, g: u64) -> u64
-    requires { ConstantsFit c × (g < 2 ^ 32) }
-    ensures { result ≡ day_of_qi c g }
-{
-    g * c.year / (12 * c.solar)
-}
-
-// The last of `steps` equal steps a year on a day before d. Parts are cut into `steps` pieces each: a step has Y of them
-// then, and a day D times `steps`, so that all is whole.
-pub(crate) fn last_step(c: Constants, steps: u64, d: u64) -> LastStep
-    requires { LastStepFits c steps d }
-    ensures { result ≡ last_step c steps d }
-{
-    let end = d * (steps * c.solar) - 1;
-    LastStep {
-        step: end / c.year,
-        left: end % c.year,
+impl Calendar {
+    // Years elapsed, N, at a common year.
+    pub(crate) fn years_elapsed(self, year: u32) -> u64
+        ensures { result ≡ years_elapsed self.c year }
+    {
+        self.c.elapsed + year as u64 - self.c.common
     }
-}
 
-// Whether the common year at n years elapsed is not one of years 1 to 3000.
-pub(crate) fn out_of_scope(c: Constants, n: u64) -> bool
-    requires { ConstantsFit c × (n < 2 ^ 62) }
-    ensures { result ≡ out_of_scope c n }
-{
-    let year = n + c.common;
-    year <= c.elapsed || c.elapsed + 3000 < year
-}
+    // The register day of a count day.
+    pub(crate) fn register_day(self, d: u64) -> RegisterDay
+        requires { InRegister self.c d }
+        ensures { result ≡ record { 0 = register_day self.c d } }
+    {
+        RegisterDay((d + self.c.epoch - self.c.anchor) as u32)
+    }
 
-// The common year at n years elapsed.
-pub(crate) fn common_year(c: Constants, n: u64) -> u32
-    requires { ConstantsFit c × (out_of_scope c n ≡ false) }
-    ensures { result ≡ common_year c n }
-{
-    (n + c.common - c.elapsed) as u32
+    // Whether a register day has no count day, since it lies before the epoch.
+    pub(crate) fn before_epoch(self, day: RegisterDay) -> bool
+        ensures { result ≡ before_epoch self.c day.0 }
+    {
+        day.0 as u64 + self.c.anchor < self.c.epoch
+    }
+
+    // The count day of a register day.
+    pub(crate) fn count_day(self, day: RegisterDay) -> u64
+        requires { before_epoch self.c day.0 ≡ false }
+        ensures { result ≡ count_day self.c day.0 }
+    {
+        day.0 as u64 + self.c.anchor - self.c.epoch
+    }
+
+    // The first count day of month k.
+    pub(crate) fn month_head(self, k: u64) -> u64
+        requires { k < 2 ^ 32 }
+        ensures { result ≡ month_head self.c k }
+    {
+        k * self.c.month / self.c.lunar
+    }
+
+    // The count day of middle qi g, counted on from the epoch.
+    pub(crate) fn day_of_qi(self, g: u64) -> u64
+        requires { g < 2 ^ 32 }
+        ensures { result ≡ day_of_qi self.c g }
+    {
+        g * self.c.year / (12 * self.c.solar)
+    }
+
+    // The last of `steps` equal steps a year on a day before d. Parts are cut into `steps` pieces each: a step has Y of
+    // them then, and a day D times `steps`, so that all is whole.
+    pub(crate) fn last_step(self, steps: u64, d: u64) -> LastStep
+        requires { LastStepFits self.c steps d }
+        ensures { result ≡ last_step self.c steps d }
+    {
+        let end = d * (steps * self.c.solar) - 1;
+        LastStep {
+            step: end / self.c.year,
+            left: end % self.c.year,
+        }
+    }
+
+    // Whether the common year at n years elapsed is not one of years 1 to 3000.
+    pub(crate) fn out_of_scope(self, n: u64) -> bool
+        requires { n < 2 ^ 62 }
+        ensures { result ≡ out_of_scope self.c n }
+    {
+        let year = n + self.c.common;
+        year <= self.c.elapsed || self.c.elapsed + 3000 < year
+    }
+
+    // The common year at n years elapsed.
+    pub(crate) fn common_year(self, n: u64) -> u32
+        requires { out_of_scope self.c n ≡ false }
+        ensures { result ≡ common_year self.c n }
+    {
+        (n + self.c.common - self.c.elapsed) as u32
+    }
 }
 
 // The number that middle qi j of a year gives its month.

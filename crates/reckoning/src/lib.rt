@@ -16,10 +16,12 @@ ghost use Rattle.reckoning.specs.Told.{told_moment, told_year, told_sheet, told_
 
 use calendar::data::{Constants, DayName, Ordinal, RegisterDay};
 use calendar::systems::{System, guantian, jingchu, jiyuan};
+use calendars::Calendar;
 use data::{Date, Days, Moment, Month, OrdinalDay, PentadInForce, Sheet, Year};
 use refusal::Refusal;
 
 mod asked;
+mod calendars;
 mod closed_forms;
 pub mod data;
 mod dates;
@@ -39,7 +41,7 @@ pub fn qi(system: u32, year: u32, i: u32) -> Result<Moment, Refusal>
     ensures { told_moment result ≡ qi_of system year i }
 {
     let asked = asked::of_step(system, year, 24, i)?;
-    Ok(steps::step(asked, 24, asked.c.units, i))
+    Ok(asked.step(24, asked.calendar.c.units, i))
 }
 
 // Pentad p of a year, p from 0 (the winter solstice) to 71.
@@ -47,7 +49,7 @@ pub fn pentad(system: u32, year: u32, p: u32) -> Result<Moment, Refusal>
     ensures { told_moment result ≡ pentad_of system year p }
 {
     let asked = asked::of_step(system, year, 71, p)?;
-    Ok(steps::step(asked, 72, asked.c.denominator, p))
+    Ok(asked.step(72, asked.calendar.c.denominator, p))
 }
 
 // The months of a year.
@@ -55,7 +57,7 @@ pub fn year(system: u32, year: u32) -> Result<Year, Refusal>
     ensures { told_year result ≡ year_of system year }
 {
     let asked = asked::of_year(system, year)?;
-    Ok(months::of_year(system, asked.c, year))
+    Ok(asked.months())
 }
 
 // The day sheet of a year.
@@ -63,7 +65,7 @@ pub fn sheet(system: u32, year: u32) -> Result<Sheet, Refusal>
     ensures { told_sheet result ≡ sheet_of system year }
 {
     let asked = asked::of_year(system, year)?;
-    Ok(names::of_year(system, asked.c, year))
+    Ok(asked.sheet())
 }
 
 // The days of a year.
@@ -71,7 +73,7 @@ pub fn days(system: u32, year: u32) -> Result<Days, Refusal>
     ensures { told_days result ≡ days_of system year }
 {
     let asked = asked::of_year(system, year)?;
-    Ok(year_days::of_year(system, asked.c, year))
+    Ok(asked.days())
 }
 
 // Below are what a citation asks (a month, a day by its ordinal, a date), the head that the second stands on, and the
@@ -100,7 +102,10 @@ fn by_system<A, F: FnOnce(Constants) -> Result<A, Refusal>>(
 pub fn reckoned_head(system: u32, year: u32) -> Result<RegisterDay, Refusal>
     ensures { told_year_head result ≡ year_head_of system year }
 {
-    by_system(system, |c| year_heads::of_common_year(c, year))
+    by_system(
+        system,
+        |c| Calendar::of(system, c).head_of_common_year(year),
+    )
 }
 
 // The month of a year with a number and a leap mark, as `month` has it, but with no leap month told.
@@ -110,9 +115,11 @@ fn month_found(system: u32, year: u32, number: u32, leap: u32) -> Result<Month, 
     // Not by `by_system`: so long a closure the compiler does not copy to each system's constants, so that it would have to
     // divide by variables.
     match System::try_from(system)? {
-        System::Guantian => months::of_common_year(guantian(), year, number, leap),
-        System::Jiyuan => months::of_common_year(jiyuan(), year, number, leap),
-        System::Jingchu => months::of_common_year(jingchu(), year, number, leap),
+        System::Guantian => Calendar::of(system, guantian()).month_of_common_year(
+            year, number, leap,
+        ),
+        System::Jiyuan => Calendar::of(system, jiyuan()).month_of_common_year(year, number, leap),
+        System::Jingchu => Calendar::of(system, jingchu()).month_of_common_year(year, number, leap),
     }
 }
 
@@ -124,7 +131,7 @@ pub fn month(system: u32, year: u32, number: u32, leap: u32) -> Result<Month, Re
     match month_found(system, year, number, leap) {
         Err(Refusal::NotLeap(_)) => by_system(
             system,
-            |c| Err(Refusal::NotLeap(leap_months::number_of_common_year(c, year))),
+            |c| Err(Refusal::NotLeap(Calendar::of(system, c).leap_number(year))),
         ),
         Err(refusal) => Err(refusal),
         Ok(month) => Ok(month),
@@ -140,14 +147,17 @@ pub fn ordinal_day(system: u32, year: u32, ordinal: Ordinal) -> Result<OrdinalDa
     if ordinal.0 == 0 {
         return Err(Refusal::Day);
     }
-    by_system(system, |c| ordinals::counted(c, year, head, ordinal))
+    by_system(
+        system,
+        |c| Calendar::of(system, c).day_counted(year, head, ordinal),
+    )
 }
 
 // The date of a register day; refused Day outside years 1 to 3000.
 pub fn date(system: u32, day: RegisterDay) -> Result<Date, Refusal>
     ensures { told_date result ≡ date_of system day.0 }
 {
-    by_system(system, |c| dates::of_day(c, day))
+    by_system(system, |c| Calendar::of(system, c).date(day))
 }
 
 // The pentad in force at the end of a register day; refused Day outside years 1 to 3000, counted from solstice to
@@ -155,7 +165,7 @@ pub fn date(system: u32, day: RegisterDay) -> Result<Date, Refusal>
 pub fn pentad_in_force(system: u32, day: RegisterDay) -> Result<PentadInForce, Refusal>
     ensures { told_pentad result ≡ pentad_in_force system day.0 }
 {
-    by_system(system, |c| pentads::of_day(c, day))
+    by_system(system, |c| Calendar::of(system, c).pentad_in_force(day))
 }
 
 // The sixty-day name of a register day.

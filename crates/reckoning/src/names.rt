@@ -1,15 +1,14 @@
 // The names of one year's days.
 ghost use Rattle.std.specs.Prelude.{◌≡◌, ◌≤◌, ◌<◌, ◌^◌};
-ghost use Rattle.calendar.specs.Systems.{constants_of, years_elapsed};
+ghost use Rattle.calendar.specs.Systems.{years_elapsed};
 ghost use Rattle.calendar.specs.SixtyDayName.{name_of};
 ghost use Rattle.reckoning.specs.Requests.{sheet_in, name_at, no_names};
 ghost use Rattle.reckoning.specs.Told.{sheet_answered};
 ghost use Rattle.reckoning.specs.Filled.{filled};
-ghost use Rattle.reckoning.specs.WordBounds.{YearInRegister};
 
+use crate::calendars::Accepted;
 use crate::data::Sheet;
-use crate::year_days;
-use calendar::data::{Constants, RegisterDay};
+use calendar::data::RegisterDay;
 
 // The name of register day d.
 pub(crate) fn name_of(d: u64) -> u8
@@ -32,12 +31,13 @@ fn names_from(head: RegisterDay, length: usize) -> [u8; 384]
     names
 }
 
-// The day sheet of a year.
-pub(crate) fn of_year(system: u32, c: Constants, year: u32) -> Sheet
-    requires { (c ≡ constants_of system) × YearInRegister c (years_elapsed c year) }
-    ensures { sheet_answered result ≡ sheet_in c (years_elapsed c year) }
-{
-    let days = year_days::of_year(system, c, year);
-    let names = names_from(days.head, days.length as usize);
-    Sheet { names: names }
+impl Accepted {
+    // The day sheet of the year.
+    pub(crate) fn sheet(self) -> Sheet
+        ensures { sheet_answered result ≡ sheet_in self.calendar.c (years_elapsed self.calendar.c self.year) }
+    {
+        let days = self.days();
+        let names = names_from(days.head, days.length as usize);
+        Sheet { names: names }
+    }
 }

@@ -2,31 +2,31 @@
 ghost use Rattle.std.specs.Prelude.{◌≡◌};
 ghost use Rattle.reckoning.specs.Requests.{in_force_in};
 ghost use Rattle.reckoning.specs.Told.{told_pentad};
-ghost use Rattle.reckoning.specs.WordBounds.{ConstantsFit};
 
-use crate::closed_forms::{before_epoch, common_year, count_day, last_step, out_of_scope};
+use crate::calendars::Calendar;
 use crate::data::PentadInForce;
 use crate::refusal::Refusal;
-use calendar::data::{Constants, RegisterDay};
+use calendar::data::RegisterDay;
 
-// The pentad in force at the end of a register day: the last on a day before the day after it. From the epoch on its year
-// tells whether the day is in scope.
-pub(crate) fn of_day(c: Constants, day: RegisterDay) -> Result<PentadInForce, Refusal>
-    requires { ConstantsFit c }
-    ensures { told_pentad result ≡ in_force_in c day.0 }
-{
-    if before_epoch(c, day) {
-        return Err(Refusal::Day);
+impl Calendar {
+    // The pentad in force at the end of a register day: the last on a day before the day after it. From the epoch on its
+    // year tells whether the day is in scope.
+    pub(crate) fn pentad_in_force(self, day: RegisterDay) -> Result<PentadInForce, Refusal>
+        ensures { told_pentad result ≡ in_force_in self.c day.0 }
+    {
+        if self.before_epoch(day) {
+            return Err(Refusal::Day);
+        }
+        let d = self.count_day(day);
+        let last = self.last_step(72, d + 1);
+        let n = last.step / 72;
+        if self.out_of_scope(n) {
+            return Err(Refusal::Day);
+        }
+        let pentad = (last.step % 72) as u32;
+        Ok(PentadInForce {
+            year: self.common_year(n),
+            pentad: pentad,
+        })
     }
-    let d = count_day(c, day);
-    let last = last_step(c, 72, d + 1);
-    let n = last.step / 72;
-    if out_of_scope(c, n) {
-        return Err(Refusal::Day);
-    }
-    let pentad = (last.step % 72) as u32;
-    Ok(PentadInForce {
-        year: common_year(c, n),
-        pentad: pentad,
-    })
 }

@@ -1,13 +1,12 @@
 // The days of one year.
 ghost use Rattle.std.specs.Prelude.{◌≡◌, ◌-◌, ◌≤◌};
-ghost use Rattle.calendar.specs.Systems.{constants_of, years_elapsed};
+ghost use Rattle.calendar.specs.Systems.{years_elapsed};
 ghost use Rattle.reckoning.specs.Requests.{days_in};
 ghost use Rattle.reckoning.specs.Told.{days_answered};
-ghost use Rattle.reckoning.specs.WordBounds.{YearInRegister};
 
+use crate::calendars::Accepted;
 use crate::data::Days;
-use crate::year_heads;
-use calendar::data::{Constants, RegisterDay};
+use calendar::data::RegisterDay;
 
 // The days from a year's head to the next year's.
 fn between(head: RegisterDay, next: RegisterDay) -> Days
@@ -20,12 +19,13 @@ fn between(head: RegisterDay, next: RegisterDay) -> Days
     }
 }
 
-// The days of a year.
-pub(crate) fn of_year(system: u32, c: Constants, year: u32) -> Days
-    requires { (c ≡ constants_of system) × YearInRegister c (years_elapsed c year) }
-    ensures { days_answered result ≡ days_in c (years_elapsed c year) }
-{
-    let head = year_heads::of_year(system, c, year);
-    let next = year_heads::of_year(system, c, year + 1);
-    between(head, next)
+impl Accepted {
+    // The days of the year.
+    pub(crate) fn days(self) -> Days
+        ensures { days_answered result ≡ days_in self.calendar.c (years_elapsed self.calendar.c self.year) }
+    {
+        let head = self.calendar.head_of_year(self.year);
+        let next = self.calendar.head_of_year(self.year + 1);
+        between(head, next)
+    }
 }

@@ -2,12 +2,8 @@ use mathlib.Core.Path.{refl}
 use Rattle.std.proofs.Common.{rules}
 use Rattle.reckoning.specs.Requests.{no_date, date_in, date_of}
 use Rattle.reckoning.specs.Told.{told_date}
-use Rattle.reckoning.proofs.ScopeInRegister.{constants_fit}
 use Rattle.reckoning.proofs.ToldCases.{by_system}
 use Rattle.reckoning.proofs.date.Goals as goal
-
-pub by_system-requires : goal.by_system-requires
-by_system-requires c = search (rules, constants_fit)
 
 pub returns : goal.returns
 unfolding date_of

@@ -2,12 +2,8 @@ use mathlib.Core.Path.{refl}
 use Rattle.std.proofs.Common.{rules}
 use Rattle.reckoning.specs.Requests.{none_in_force, in_force_in, pentad_in_force}
 use Rattle.reckoning.specs.Told.{told_pentad}
-use Rattle.reckoning.proofs.ScopeInRegister.{constants_fit}
 use Rattle.reckoning.proofs.ToldCases.{by_system}
 use Rattle.reckoning.proofs.pentad_in_force.Goals as goal
-
-pub by_system-requires : goal.by_system-requires
-by_system-requires c = search (rules, constants_fit)
 
 pub returns : goal.returns
 unfolding pentad_in_force

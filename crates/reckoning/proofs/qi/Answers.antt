@@ -13,4 +13,4 @@ pub step-requires : goal.step-requires
 step-requires c = asked_fits qis qis_sound _ _ _ c.in_ok-asked.ensures refl
 
 pub returns : goal.returns
-returns c = answers_step qis _ _ _ c.in_ok-asked.ensures c.step.ensures
+returns c = answers_step qis _ _ _ c.in_ok-asked.asked c.in_ok-asked.ensures c.step.ensures

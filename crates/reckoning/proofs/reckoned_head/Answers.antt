@@ -2,13 +2,9 @@ use mathlib.Core.Path.{refl, ◌∙◌}
 use Rattle.std.proofs.Common.{rules}
 use Rattle.reckoning.specs.Requests.{answer_of_year, year_head_in, no_year_head, year_head_of}
 use Rattle.reckoning.specs.Told.{told_year_head}
-use Rattle.reckoning.proofs.ScopeInRegister.{years_in_register}
 use Rattle.reckoning.proofs.AnswerUnless.{system_then_year}
 use Rattle.reckoning.proofs.ToldCases.{by_system}
 use Rattle.reckoning.proofs.reckoned_head.Goals as goal
-
-pub by_system-requires : goal.by_system-requires
-by_system-requires c = search (rules, years_in_register)
 
 pub returns : goal.returns
 unfolding year_head_of

@@ -1,7 +1,7 @@
 use mathlib.Core.Path.{refl, ◌∙◌}
 use Rattle.std.proofs.lemmas.Result.{err_from_is_err_and}
 use Rattle.reckoning.specs.Requests.{year_in, no_year, year_of}
-use Rattle.reckoning.proofs.AnswerUnless.{refused, asked_of_system, answered_of_system}
+use Rattle.reckoning.proofs.AnswerUnless.{refused, answered}
 use Rattle.reckoning.proofs.ToldCases.{number_not_0}
 use Rattle.reckoning.proofs.year.Goals as goal
 
@@ -11,9 +11,6 @@ returns-in_err-asked c =
     let p = err_from_is_err_and c.from_residual.result c.from_residual.ensures.1 in
     rw (p.1, p.2) (refused year_in no_year _ _ c.in_err-asked.ensures (number_not_0 _))
 
-pub of_year-requires-2 : goal.of_year-requires-2
-of_year-requires-2 c = asked_of_system _ _ c.in_ok-asked.ensures refl
-
 pub returns : goal.returns
 unfolding year_of
-returns c = c.of_year-2.ensures ∙ answered_of_system _ _ c.in_ok-asked.ensures refl year_in no_year
+returns c = c.months.ensures ∙ answered year_in no_year _ _ c.in_ok-asked.ensures refl
