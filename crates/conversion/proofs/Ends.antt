@@ -1,5 +1,5 @@
 -- Records in their place, and how a conversion ends.
-use Prim.Native.Nat.{ℕ, ◌+◌, ◌≤◌, ◌<◌}
+use Prim.Native.Nat.{ℕ, ◌+◌, ◌*◌, ◌^◌, ◌≤◌, ◌<◌}
 use mathlib.Core.Path.{◌≡◌, refl, ap, ap₂, sym, ◌∙◌}
 use mathlib.Core.Bool.{cond}
 use mathlib.Core.List.{List, [], ◌∷◌, ◌++◌, append-nil}
@@ -17,7 +17,7 @@ use Rattle.little_endian.specs.Bytes.{byte}
 use Rattle.citation.specs.Record.{name_field}
 use Rattle.citation.specs.Output.{record_into}
 use Rattle.citation.proofs.TenBytes.{elements, elements_all}
-use Rattle.conversion.specs.Conversion.{conversion_refusal, refusal_into, converted, converted_into, renewed, left_with}
+use Rattle.conversion.specs.Conversion.{conversion_refusal, refusal_into, converted, conversion_answer, converted_into, renewed, left_with}
 use Rattle.conversion.specs.Told.{told_left}
 use Rattle.conversion.proofs.Cases.{Convertible, accepted}
 
@@ -87,9 +87,9 @@ module _ (s : List ℕ) (room : ℕ) where
   unfolding refusal_into
   refusal_none z h = simp (eq-eqb (conversion_refusal s) 0 z, le-ltb room 10 h)
 
--- Refused with a number: the output as it was;
+-- Refused with a number: the answer, and the output as it was;
 pub record Refused (s before : List ℕ) (number : ℕ) : Type 0 where
-  pub number_is : number ≡ refusal_into s (length before)
+  pub answer : number * 2 ^ 32 ≡ conversion_answer s (length before)
   pub output : before ≡ converted_into s before
 
 module _ (s before : List ℕ) where
@@ -97,7 +97,7 @@ module _ (s before : List ℕ) where
   unfolding converted_into
   refused_by number is some =
       record {
-        number_is = sym is;
+        answer = omega arith;
         output =
             ap (λ b. cond b (converted s ++ drop 10 before) before)
             (sym (ne_eqb (refusal_into s (length before)) 0 (λ z. some (sym is ∙ z))));
@@ -111,6 +111,9 @@ module _ (s before : List ℕ) where
   no_room z h = refused_by OUTPUT (refusal_output s (length before) z h) (λ e. omega arith)
 
   -- or converted.
+  pub answered : conversion_refusal s ≡ 0 → 10 ≤ length before → 0 ≡ conversion_answer s (length before)
+  answered z h = omega (arith, refusal_none s (length before) z h)
+
   pub written : {bytes : List ℕ} → conversion_refusal s ≡ 0 → 10 ≤ length before → bytes ≡ converted s
       → bytes ++ drop 10 before ≡ converted_into s before
   unfolding converted_into

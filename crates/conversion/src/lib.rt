@@ -4,7 +4,7 @@
 ghost use Rattle.std.specs.Prelude.{◌≡◌, false, eqb, length};
 ghost use Rattle.reckoning.specs.RefusalNumbers.{KIND, number_of};
 ghost use Rattle.reckoning.specs.Told.{told_refusal};
-ghost use Rattle.conversion.specs.Conversion.{conversion_refusal, refusal_into, converted, conversion_answer};
+ghost use Rattle.conversion.specs.Conversion.{conversion_refusal, converted, conversion_answer};
 ghost use Rattle.conversion.specs.Conversion.{converted_into, renewed, left_with};
 ghost use Rattle.conversion.specs.Told.{told_left};
 
@@ -89,26 +89,17 @@ pub fn renew(cited: &mut [u8]) -> Result<(), Refusal>
     Ok(())
 }
 
-// Converts one record. The output's first ten bytes become the record of kind 5, and the rest is left; refused, no byte
-// changes.
-fn convert(input: &[u8], output: &mut [u8]) -> Result<(), Refusal>
-    ensures value { told_refusal result ≡ refusal_into input.now (length output.old) }
-    ensures output_after { output.new ≡ converted_into input.now output.old }
-{
-    convertible(input)?;
-    if put(output, raised(input)) {
-        return Ok(());
-    }
-    Err(Refusal::Output)
-}
-
-// Converts one record, with 2^32 times the refusal number as the answer.
+// Converts one record. The output's first ten bytes become the record of kind 5, and the rest is left. The answer is
+// 2^32 times the refusal number; refused, no byte changes.
 pub fn chiselbrow_convert(input: &[u8], output: &mut [u8]) -> u64
     ensures value { result ≡ conversion_answer input.now (length output.old) }
     ensures output_after { output.new ≡ converted_into input.now output.old }
 {
-    match convert(input, output) {
-        Ok(()) => 0,
-        Err(refusal) => refusal.in_answer(),
+    if let Err(refusal) = convertible(input) {
+        return refusal.in_answer();
     }
+    if put(output, raised(input)) {
+        return 0;
+    }
+    Refusal::Output.in_answer()
 }

@@ -5,10 +5,15 @@ use mathlib.Core.Bool.{Bool, false, not, ◌||◌}
 use mathlib.Core.List.{List, ◌++◌, append_assoc}
 use native.Mathlib.Omega.{arith}
 use lib.Dec.{eqb}
+use borrow.Author.Tests.{ne_eqb}
 use lib.ListN.{length, take, drop, length-append, length-drop, take-append-drop}
 use lib.Seq.{drop_at, take_at, length-take-le}
-use Rattle.std.specs.Prelude.{Option, Some, None}
+use Rattle.std.specs.Prelude.{Option, Some, None, Result, Ok, Err, is_err}
 use Rattle.std.proofs.Math.Bool.{or-false, or_assoc}
+use Rattle.reckoning.specs.declared.refusal.Refusal.{Refusal}
+use Rattle.reckoning.specs.RefusalNumbers.{number_of}
+use Rattle.reckoning.specs.Told.{told_refusal}
+use Rattle.reckoning.proofs.ToldCases.{number_not_0}
 use Rattle.citation.specs.Record.{length_field}
 use Rattle.conversion.specs.Conversion.{renewed, left_with}
 use Rattle.conversion.proofs.Ends.{renewed_length}
@@ -17,6 +22,11 @@ use Rattle.framing.proofs.Framed.{Next, next_is, next_none}
 use Rattle.framing.proofs.Cutting.{framing_none, framing_more}
 use Rattle.framing.proofs.WholeRun.{whole_none, whole_more}
 use Rattle.renewal.specs.Renewal.{renewer, renewed_of, any_refused, renewal_of}
+
+-- A record is refused where its refusal has a number.
+is_refused : (r : Result (Unit {0}) Refusal) → is_err r ≡ not (eqb (told_refusal r) 0)
+is_refused (Ok a) = refl
+is_refused (Err e) = sym (ap not (ne_eqb (number_of e) 0 (number_not_0 e)))
 
 -- So far a buffer was renewed: up to a place. The rest is still to be renewed.
 pub record Renewing (s b : List ℕ) (at : ℕ) (refused : Bool) : Type 0 where
@@ -85,10 +95,11 @@ module _ {s b : List ℕ} {at n : ℕ} {refused : Bool} {found : Option ℕ} (κ
     pub less_left : length after - (at + n) < length b - at
     less_left = omega (arith, here.at_least, record_within, after_length)
 
-    pub renewing_more : {refusal : ℕ} → refusal ≡ left_with (take (at + n - at) (drop at b))
-        → Renewing s after (at + n) (refused || not (eqb refusal 0))
+    pub renewing_more : (r : Result (Unit {0}) Refusal) {refusal : Bool} → told_refusal r ≡ left_with (take (at + n - at) (drop at b))
+        → refusal ≡ is_err r
+        → Renewing s after (at + n) (refused || refusal)
     unfolding any_refused
-    renewing_more answered =
+    renewing_more r answered tested =
         let f = drop at b in
         let cut = framing_more f here.is_framed in
         let record_is : take (length_field f) f ≡ take n f = ap (λ k. take k f) (sym here.is_length) in
@@ -106,8 +117,11 @@ module _ {s b : List ℕ} {at n : ℕ} {refused : Bool} {found : Option ℕ} (κ
               ∙ ap₂ (λ r t. refused || (not (eqb (left_with r) 0) || any_refused (framing t).records)) record_is ahead
               ∙ sym (or_assoc refused (not (eqb (left_with (take n f)) 0)) (any_refused (framing (drop (at + n) after)).records))
               ∙ ap
-              (λ k. (refused || not (eqb k 0)) || any_refused (framing (drop (at + n) after)).records)
-              (ap (λ k. left_with (take k f)) (sym same) ∙ sym answered);
+              (λ k. (refused || k) || any_refused (framing (drop (at + n) after)).records)
+              (ap (λ k. not (eqb (left_with (take k f)) 0)) (sym same)
+              ∙ ap (λ k. not (eqb k 0)) (sym answered)
+              ∙ sym (is_refused r)
+              ∙ sym tested);
         }
 
 -- Where no record is next, all is renewed.

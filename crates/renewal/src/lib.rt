@@ -22,7 +22,7 @@ pub fn renew(buffer: &mut [u8]) -> Renewal
     let mut refused = false;
     while let Some(n) = next(buffer, at) {
         let end = at + n;
-        refused |= conversion::renew(&mut buffer[at..end]) != 0;
+        refused |= conversion::renew(&mut buffer[at..end]).is_err();
         at = end;
     }
     Renewal {
