@@ -2,15 +2,13 @@
 use framing::next;
 use process::exit;
 use process::streams::Streams;
+use reckoning::refusal::Refusal;
 
-// Tells a record by its refusal and its place in the input, where it has a refusal.
-fn tell(streams: &mut Streams, refusal: u8, place: u64) {
-    if refusal == 0 {
-        return;
-    }
+// Tells a record by its refusal and its place in the input.
+fn tell(streams: &mut Streams, refusal: Refusal, place: u64) {
     let mut told = [0u8; 32];
     let at = text::word(&mut told, 0, b": ");
-    let end = text::refused(&mut told, at, refusal);
+    let end = text::refused(&mut told, at, refusal.number());
     exit::fail_at(
         streams,
         b"chiselbrow-renew: standard input: record at byte ",
@@ -25,8 +23,13 @@ pub(crate) fn tell_refused(streams: &mut Streams, renewed: &[u8], offset: u64) {
     let mut at = 0;
     while let Some(n) = next(renewed, at) {
         let end = at + n;
-        let place = std::num::wrapping_add_u64(offset, at as u64);
-        tell(streams, conversion::left_with(&renewed[at..end]), place);
+        if let Some(refusal) = conversion::left_with(&renewed[at..end]) {
+            tell(
+                streams,
+                refusal,
+                std::num::wrapping_add_u64(offset, at as u64),
+            );
+        }
         at = end;
     }
 }

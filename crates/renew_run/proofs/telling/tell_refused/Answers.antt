@@ -11,3 +11,6 @@ slice_bounds-left_with-end c = search next_within
 
 pub loop-n-smaller : goal.loop-n-smaller
 loop-n-smaller c = search less_ahead
+
+pub loop-n-smaller-in-Some-left_with : goal.loop-n-smaller-in-Some-left_with
+loop-n-smaller-in-Some-left_with c = search less_ahead
