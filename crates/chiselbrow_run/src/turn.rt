@@ -39,9 +39,9 @@ pub(crate) fn answer(input: &mut [u8], ended: bool, out: &mut [u8]) -> Turn
     let left = input.len() - read;
     keep(input, read);
     Turn {
-        read: read,
-        left: left,
-        written: written,
-        more: more,
+        read,
+        left,
+        written,
+        more,
     }
 }

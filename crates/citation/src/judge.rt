@@ -33,7 +33,7 @@ fn accept(day: RegisterDay, cited: MonthCited, place: u8) -> Judgement
 {
     let [low, high] = cited.year.to_le_bytes();
     Judgement {
-        day: day,
+        day,
         stored: [
             10,
             0,
@@ -55,8 +55,8 @@ fn judge_ordinal(system: u8, year: u16, ordinal: Ordinal) -> Result<Judgement, R
 {
     let d = reckoning::ordinal_day(system as u32, year as u32, ordinal)?;
     let cited = MonthCited {
-        system: system,
-        year: year,
+        system,
+        year,
         number: d.month,
         leap: d.leap,
     };
@@ -69,7 +69,7 @@ fn judge_register_day(system: u8, day: RegisterDay) -> Result<Judgement, Refusal
 {
     let d = reckoning::date(system as u32, day)?;
     let cited = MonthCited {
-        system: system,
+        system,
         year: d.year as u16,
         number: d.month,
         leap: d.leap,
@@ -128,10 +128,10 @@ fn judge_kind(s: &[u8], kind: u32) -> Result<Judgement, Refusal>
         let leap = s[8];
         let m = reckoning::month(system as u32, year, number as u32, leap as u32)?;
         let cited = MonthCited {
-            system: system,
+            system,
             year: year as u16,
-            number: number,
-            leap: leap,
+            number,
+            leap,
         };
         if kind == 1 {
             return judge_day(m, cited, s[9]);

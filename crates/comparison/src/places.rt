@@ -74,13 +74,13 @@ pub(crate) fn list(first: &Year, second: &Year) -> Comparison
         if let Some(difference) = difference_at(first, second, i) {
             places[count] = Listed {
                 place: i as u8 + 1,
-                difference: difference,
+                difference,
             };
             count += 1;
         }
     }
     Comparison {
         count: count as u8,
-        places: places,
+        places,
     }
 }

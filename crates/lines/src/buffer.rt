@@ -35,10 +35,7 @@ pub fn put_lines(input: &[u8], out: &mut [u8]) -> Progress
         written = put_line(&input[read..end], out, written);
         read = end;
     }
-    Progress {
-        read: read,
-        written: written,
-    }
+    Progress { read, written }
 }
 
 // The line for bytes that are no record, where there are any.

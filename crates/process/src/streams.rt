@@ -33,9 +33,9 @@ pub fn open(input: Stdin, output: Stdout, errors: Stderr) -> Streams
     ensures { result ≡ record { input = input; output = output; errors = errors } }
 {
     Streams {
-        input: input,
-        output: output,
-        errors: errors,
+        input,
+        output,
+        errors,
     }
 }
 

@@ -30,7 +30,7 @@ fn accept(system: u32, year: u32) -> Accepted
 {
     Accepted {
         calendar: Calendar::of(system, constants_of(system)),
-        year: year,
+        year,
     }
 }
 

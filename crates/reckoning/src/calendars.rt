@@ -29,9 +29,6 @@ impl Calendar {
         requires { c ≡ constants_of system }
         ensures { result.c ≡ c }
     {
-        Calendar {
-            system: system,
-            c: c,
-        }
+        Calendar { system, c }
     }
 }

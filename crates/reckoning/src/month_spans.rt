@@ -37,8 +37,8 @@ impl Calendar {
         let next = d + 1 + left / self.c.lunar;
         MonthSpan {
             month: end / self.c.month,
-            head: head,
-            next: next,
+            head,
+            next,
         }
     }
 

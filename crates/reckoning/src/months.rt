@@ -54,11 +54,11 @@ impl Calendar {
         heads[count] = closing;
         Year {
             count: count as u8,
-            heads: heads,
-            numbers: numbers,
-            leaps: leaps,
-            remainders: remainders,
-            held: held,
+            heads,
+            numbers,
+            leaps,
+            remainders,
+            held,
         }
     }
 
@@ -70,7 +70,7 @@ impl Calendar {
         let length = (m.next - m.head) as u8;
         Month {
             head: self.register_day(m.head),
-            length: length,
+            length,
         }
     }
 

@@ -37,7 +37,7 @@ impl Calendar {
             day: self.register_day(d),
             month: number_of(j),
             leap: last.leap,
-            place: place,
+            place,
         })
     }
 }

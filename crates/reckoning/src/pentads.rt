@@ -26,7 +26,7 @@ impl Calendar {
         let pentad = (last.step % 72) as u32;
         Ok(PentadInForce {
             year: self.common_year(n),
-            pentad: pentad,
+            pentad,
         })
     }
 }

@@ -14,7 +14,7 @@ fn between(head: RegisterDay, next: RegisterDay) -> Days
     ensures { result ≡ record { head = head; length = next.0 - head.0 } }
 {
     Days {
-        head: head,
+        head,
         length: (next.0 - head.0) as u16,
     }
 }

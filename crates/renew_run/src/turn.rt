@@ -32,9 +32,9 @@ pub(crate) fn renew(buffer: &mut [u8], ended: bool) -> Turn
     let read = r.read;
     let more = goes_on(ended, &buffer[read..]);
     Turn {
-        read: read,
+        read,
         written: to_write(more, read, buffer.len()),
-        more: more,
+        more,
         refused: r.refused,
     }
 }

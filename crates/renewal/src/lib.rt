@@ -25,8 +25,5 @@ pub fn renew(buffer: &mut [u8]) -> Renewal
         refused |= conversion::renew(&mut buffer[at..end]).is_err();
         at = end;
     }
-    Renewal {
-        read: at,
-        refused: refused,
-    }
+    Renewal { read: at, refused }
 }

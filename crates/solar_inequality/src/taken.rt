@@ -23,10 +23,7 @@ pub(crate) fn of_day(season: Season, days: u32) -> Taken
 {
     let parts = days as u64 * GUANTIAN_DAY;
     if parts <= season.limit().parts {
-        return Taken {
-            parts: parts,
-            season: season,
-        };
+        return Taken { parts, season };
     }
     Taken {
         parts: HALF_YEAR - parts,

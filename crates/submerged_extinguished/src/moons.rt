@@ -45,7 +45,7 @@ impl Numbers {
         let remainder = c.lunar - 1 - left;
         Moon {
             day: head.0,
-            remainder: remainder,
+            remainder,
         }
     }
 
@@ -92,7 +92,7 @@ impl Numbers {
         }
         ExtinguishedDays {
             count: count as u8,
-            moons: moons,
+            moons,
         }
     }
 }

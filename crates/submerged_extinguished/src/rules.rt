@@ -58,7 +58,7 @@ pub(crate) fn guantian() -> Numbers
     };
     Numbers {
         constants: systems::guantian(),
-        rule: rule,
+        rule,
     }
 }
 
@@ -75,6 +75,6 @@ pub(crate) fn jiyuan() -> Numbers
     };
     Numbers {
         constants: systems::jiyuan(),
-        rule: rule,
+        rule,
     }
 }
