@@ -6,7 +6,7 @@ ghost use Rattle.reckoning.specs.ComputedRefusals.{year_refusal, step_refusal};
 ghost use Rattle.reckoning.specs.Scope.{YearInScope};
 ghost use Rattle.reckoning.specs.Told.{accepted_as, told_asked};
 
-use crate::calendars::{Accepted, Calendar};
+use crate::calendars::Accepted;
 use crate::refusal;
 use crate::refusal::Refusal;
 use calendar::data::Constants;
@@ -28,10 +28,7 @@ fn accept(system: u32, year: u32) -> Accepted
     requires { YearInScope year }
     ensures { accepted_as result ≡ asked_of 0 system year }
 {
-    Accepted {
-        calendar: Calendar::of(system, constants_of(system)),
-        year,
-    }
+    Accepted::of(system, constants_of(system), year)
 }
 
 pub(crate) fn of_year(system: u32, year: u32) -> Result<Accepted, Refusal>

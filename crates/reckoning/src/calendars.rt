@@ -1,5 +1,5 @@
-// The calendar of one system: its number and its constants. The types hold what the reckoning stands on: the constants
-// keep its numbers within 64 bits, for every year in scope and every register day from the epoch on.
+// A system as all is reckoned by it, and a year of it that a request is answered for. What the reckoning needs of the two is
+// in their types. Their methods stand in the file of what they find: closed forms, months, heads, dates and so on.
 ghost use Rattle.std.specs.Prelude.{◌≡◌};
 ghost use Rattle.calendar.specs.Systems.{constants_of};
 ghost use Rattle.reckoning.specs.Scope.{YearInScope};
@@ -7,6 +7,7 @@ ghost use Rattle.reckoning.specs.WordBounds.{YearsInRegister};
 
 use calendar::data::Constants;
 
+// A system's number and its constants, which keep the numbers of every year in scope within 64 bits.
 #[derive(Clone, Copy)]
 pub(crate) struct Calendar {
     pub system: u32,
@@ -15,7 +16,7 @@ pub(crate) struct Calendar {
     ghost fits: { YearsInRegister c },
 }
 
-// The year that a request is answered for.
+// A year in scope.
 #[derive(Clone, Copy)]
 pub(crate) struct Accepted {
     pub calendar: Calendar,
@@ -30,5 +31,18 @@ impl Calendar {
         ensures { result.c ≡ c }
     {
         Calendar { system, c }
+    }
+}
+
+impl Accepted {
+    #[inline(always)]
+    pub(crate) fn of(system: u32, c: Constants, year: u32) -> Self
+        requires { (c ≡ constants_of system) × YearInScope year }
+        ensures { (result.calendar.c ≡ c) × (result.year ≡ year) }
+    {
+        Accepted {
+            calendar: Calendar::of(system, c),
+            year: year,
+        }
     }
 }

@@ -3,10 +3,9 @@ ghost use Rattle.std.specs.Prelude.{◌≡◌, ◌+◌, ◌-◌, ◌<◌};
 ghost use Rattle.calendar.specs.Systems.{years_elapsed};
 ghost use Rattle.calendar.specs.LeapMonth.{leap_number, no_leap_up_to, LeapBetween};
 ghost use Rattle.reckoning.specs.RefusalNumbers.{number_or_0};
-ghost use Rattle.reckoning.specs.Scope.{YearInScope};
 ghost use Rattle.reckoning.specs.WordBounds.{FirstMonthFits, YearInRegister};
 
-use crate::calendars::Calendar;
+use crate::calendars::{Accepted, Calendar};
 use crate::closed_forms::number_of_qi;
 
 // Two middle qi, counted from a year's first: none of the months up to that of `low` is leap, and one up to that of
@@ -55,13 +54,16 @@ impl Calendar {
         }
         b.low
     }
+}
 
-    // The number of a year's leap month, if it has one.
-    pub(crate) fn leap_number(self, year: u32) -> Option<u8>
-        requires { YearInScope year }
-        ensures { number_or_0 result ≡ leap_number self.c (years_elapsed self.c year) }
+impl Accepted {
+    // The number of the year's leap month, if it has one.
+    pub(crate) fn leap_number(self) -> Option<u8>
+        ensures { number_or_0 result ≡ leap_number self.calendar.c (years_elapsed self.calendar.c self.year) }
     {
-        let last = self.last_before_leap(self.years_elapsed(year));
+        let last = self
+            .calendar
+            .last_before_leap(self.calendar.years_elapsed(self.year));
         if 12 <= last {
             return None;
         }

@@ -16,7 +16,7 @@ ghost use Rattle.reckoning.specs.Told.{told_moment, told_year, told_sheet, told_
 
 use calendar::data::{Constants, DayName, Ordinal, RegisterDay};
 use calendar::systems::{System, guantian, jingchu, jiyuan};
-use calendars::Calendar;
+use calendars::{Accepted, Calendar};
 use data::{Date, Days, Moment, Month, OrdinalDay, PentadInForce, Sheet, Year};
 use refusal::Refusal;
 
@@ -131,7 +131,7 @@ pub fn month(system: u32, year: u32, number: u32, leap: u32) -> Result<Month, Re
     match month_found(system, year, number, leap) {
         Err(Refusal::NotLeap(_)) => by_system(
             system,
-            |c| Err(Refusal::NotLeap(Calendar::of(system, c).leap_number(year))),
+            |c| Err(Refusal::NotLeap(Accepted::of(system, c, year).leap_number())),
         ),
         Err(refusal) => Err(refusal),
         Ok(month) => Ok(month),
@@ -149,7 +149,7 @@ pub fn ordinal_day(system: u32, year: u32, ordinal: Ordinal) -> Result<OrdinalDa
     }
     by_system(
         system,
-        |c| Calendar::of(system, c).day_counted(year, head, ordinal),
+        |c| Accepted::of(system, c, year).day_counted(head, ordinal),
     )
 }
 

@@ -1,6 +1,6 @@
 use Rattle.reckoning.proofs.RegisterLaws.{year_asked}
 use Rattle.reckoning.proofs.LeapMonthSearch.{told_none, told_number}
-use Rattle.reckoning.proofs.calendars.Calendar.leap_number.Goals as goal
+use Rattle.reckoning.proofs.calendars.Accepted.leap_number.Goals as goal
 
 pub last_before_leap-last-requires : goal.last_before_leap-last-requires
 last_before_leap-last-requires c = search year_asked
