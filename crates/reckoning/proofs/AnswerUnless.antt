@@ -1,7 +1,7 @@
 -- How a request's answer follows from what it stands on: one law for every request.
 use Prim.Native.Nat.{ℕ, ◌<◌}
 use mathlib.Core.Path.{◌≡◌, refl, ◌∙◌, subst, sym, ap}
-use mathlib.Core.Bool.{Bool, true, false, cond}
+use mathlib.Core.Bool.{Bool, false}
 use native.Mathlib.Omega.{arith}
 use borrow.Author.Tests.{eq-eqb, ne_eqb}
 use Rattle.calendar.specs.declared.data.Constants.{Constants}
@@ -38,17 +38,6 @@ module _ {A : Type 0} (answer : Constants → ℕ → A) (blank : ℕ → A) whe
       ≡ answer_unless (year_refusal system year) system year answer blank
   answered_year system year s =
       let a = asked_of (year_refusal system year) system year in answered a a refl (in_scope system year s)
-
--- A request by year, of a system's constants, refused or answered.
-module _ {A : Type 0} (answer : Constants → ℕ → A) (blank : ℕ → A) (c : Constants) (year : ℕ) {b : Bool} (test : b ≡ out_of_years year) where
-  abbrev decided : Bool → A
-  decided wrong = cond wrong (blank YEAR) (answer c (years_elapsed c year))
-
-  pub refused_in_system : b ≡ true → blank YEAR ≡ answer_of_year c year answer blank
-  refused_in_system out = ap decided (sym out ∙ test)
-
-  pub answered_in_system : b ≡ false → answer c (years_elapsed c year) ≡ answer_of_year c year answer blank
-  answered_in_system inside = ap decided (sym inside ∙ test)
 
 pub year_tested : (year : ℕ) {b : Bool} → b ≡ out_of_years year → b ≡ false → YearInScope year
 year_tested year test inside = inside_of 1 3000 year (sym test ∙ inside)

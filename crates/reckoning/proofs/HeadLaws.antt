@@ -1,12 +1,10 @@
 -- The heads of years, printed and reckoned.
 use Prim.Native.Nat.{ℕ, ◌+◌, ◌-◌, ◌≤◌}
 use mathlib.Core.Path.{◌≡◌, sym, ap, ap₂, subst, subst₂, ◌∙◌}
-use mathlib.Core.Bool.{false}
 use native.Mathlib.Omega.{arith}
-use borrow.Author.Tests.{le-ltb}
 use Rattle.calendar.specs.declared.data.Constants.{Constants}
 use Rattle.calendar.specs.declared.data.RegisterDay.{RegisterDay}
-use Rattle.calendar.specs.Systems.{years_elapsed, register_day, count_day, before_epoch}
+use Rattle.calendar.specs.Systems.{years_elapsed, register_day, count_day}
 use Rattle.calendar.specs.Month.{month_head}
 use Rattle.calendar.specs.Consistent.{Consistent}
 use Rattle.calendar.specs.ClosedForms.{month_of_day, first_month, head_of_year, register_head}
@@ -33,9 +31,6 @@ is_its_months_head {c} n ok e = ap (λ d. month_head c (month_of_day c d)) e ∙
 
 -- The head's count day is told from its register day.
 module _ {c : Constants} {n : ℕ} {r : RegisterDay} (h : HeadInRegister c n) (e : r ≡ register_head c n) where
-  pub from_epoch : before_epoch c r.0 ≡ false
-  from_epoch = le-ltb (r.0 + c.anchor) c.epoch (omega (arith, ap (λ x. x.0) e, h.head))
-
   pub count_day_lem : count_day c r.0 ≡ head_of_year c n
   count_day_lem = omega (arith, ap (λ x. x.0) e, h.head)
 

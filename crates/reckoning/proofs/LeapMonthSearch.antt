@@ -1,7 +1,6 @@
 -- How the leap month of a year is found: what each test shows, and what is left between the bounds.
-use Prim.Native.Nat.{ℕ, ◌+◌, ◌*◌, ◌-◌, ◌/◌, ◌%◌, ◌≤◌, ◌<◌}
-use mathlib.Core.Path.{◌≡◌, subst, sym, ap, ◌∙◌}
-use mathlib.Core.Bool.{Bool, true, false}
+use Prim.Native.Nat.{ℕ, ◌+◌, ◌*◌, ◌-◌, ◌%◌, ◌≤◌, ◌<◌}
+use mathlib.Core.Path.{◌≡◌, sym, ap, ◌∙◌}
 use lib.Dec.{ltb}
 use native.Mathlib.Omega.{arith}
 use borrow.Author.Tests.{lt-ltb, le-ltb}
@@ -36,24 +35,6 @@ leap_tested {c} {n} {first} y i {day} {end} day_is end_is =
     le-ltb day end l
     ∙ sym (le-ltb k (first_month c n + i + 1)
     (omega (arith, month_from c ok (first + i + 1) (day_of_qi c (12 * n + i)) (omega arith)))))
-
--- The middle of two bounds becomes the one or the other.
-module _ {c : Constants} {n low high : ℕ} (s : LeapBetween c n low high) (apart : low + 1 < high) {test : Bool}
-    (is : test ≡ no_leap_up_to c n ((low + high) / 2))
-  where
-    pub raised : test ≡ true → LeapBetween c n ((low + high) / 2) high × (high - (low + high) / 2 < high - low)
-    raised e = (record { below = omega arith; most = s.most; none = sym is ∙ e; some = s.some }, omega arith)
-
-    pub lowered : test ≡ false → LeapBetween c n low ((low + high) / 2) × ((low + high) / 2 - low < high - low)
-    lowered e = (
-      record { below = omega arith; most = omega (arith, s.most); none = s.none; some = λ l. sym is ∙ e },
-      omega arith,
-    )
-
--- Bounds side by side.
-pub beside : {c : Constants} {n low high : ℕ} → LeapBetween c n low high → high ≤ low + 1 → LeapBetween c n low (low + 1)
-beside {c} {n} {low} {high} s l =
-    let e : high ≡ low + 1 = omega (arith, s.below) in subst (LeapBetween c n low) e s
 
 module _ {c : Constants} {n : ℕ} (r : YearInRegister c n) where
   pub from_first : {first : MonthSpan} → first ≡ month_span c (first_month c n) → FirstMonthFits c n first.month

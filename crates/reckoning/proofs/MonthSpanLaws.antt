@@ -1,26 +1,23 @@
 -- Months with their bounds: the code's numbers fit, and are those of the closed forms.
 use Prim.Native.Nat.{ℕ, ◌+◌, ◌*◌, ◌-◌, ◌/◌, ◌%◌, ◌^◌, ◌≤◌, ◌<◌}
 use mathlib.Core.Path.{◌≡◌, sym, ap, ap₂, ◌∙◌}
-use native.Mathlib.Nat.{mod-lt, mul-le-mul_right, lt_of_le_of_lt}
+use native.Mathlib.Nat.{mod-lt}
 use native.Mathlib.Omega.{arith}
-use mir.Syntax.{w8, w32, w64}
+use mir.Syntax.{w8}
 use mir.Val.{Fits}
 use Rattle.calendar.specs.declared.data.Constants.{Constants}
-use Rattle.calendar.specs.declared.data.RegisterDay.{RegisterDay}
-use Rattle.calendar.specs.Systems.{register_day}
 use Rattle.calendar.specs.Month.{new_moon_remainder, month_head}
 use Rattle.calendar.specs.Calendar.{Calendar}
 use Rattle.calendar.specs.ClosedForms.{month_of_day, qi_before, qi_of_month}
-use Rattle.calendar.proofs.Reckoned.{reckoned, month_some, head_small}
+use Rattle.calendar.proofs.Reckoned.{reckoned, month_some}
 use Rattle.calendar.proofs.EveryCalendar.{month_of_day_most}
-use Rattle.calendar.proofs.HeldQi.{moon_told, remainder_below}
+use Rattle.calendar.proofs.HeldQi.{moon_told}
 use Rattle.calendar.proofs.Remainders.{parts_into, days_before, days_after, twelfths_since, twelfths_in, leap_by_twelfths, ordinary_by_twelfths}
 use Rattle.reckoning.specs.declared.closed_forms.LastStep.{LastStep}
 use Rattle.reckoning.specs.declared.month_spans.MonthSpan.{MonthSpan}
-use Rattle.reckoning.specs.Requests.{as_register_day, month_at}
 use Rattle.reckoning.specs.LastSteps.{last_step}
 use Rattle.reckoning.specs.MonthSpans.{month_span, last_qi}
-use Rattle.reckoning.specs.WordBounds.{ConstantsFit, LastStepFits, SpanFits}
+use Rattle.reckoning.specs.WordBounds.{ConstantsFit, SpanFits}
 
 -- A month with its bounds fits where its count does.
 pub span_fits : {c : Constants} {m : MonthSpan} (k : ℕ) → ConstantsFit c → m ≡ month_span c k → k + 2 < 2 ^ 32 → SpanFits c m
@@ -32,20 +29,6 @@ span_fits {c} {m} k fit e small =
 module _ {c : Constants} (fit : ConstantsFit c) (d : ℕ) where
   into_below : parts_into c d < c.month
   into_below = mod-lt ((d + 1) * c.lunar - 1) (month_some c fit.consistent)
-
-  pub into_most : parts_into c d ≤ c.month
-  into_most = omega (arith, into_below)
-
-  pub left_some : 1 ≤ c.month - parts_into c d
-  left_some = omega (arith, into_below)
-
-  pub head_from : parts_into c d / c.lunar ≤ d
-  head_from = omega (arith, days_before c fit.consistent d)
-
-  pub next_fits : d + 1 < 2 ^ 38 → Fits w64 (d + 1 + (c.month - parts_into c d - 1) / c.lunar)
-  next_fits h =
-      let K = reckoned c fit.consistent in
-      omega (arith, days_after c fit.consistent d, K.day_from d, K.month_most (month_of_day c d))
 
   pub span_of_day : record {
     month = month_of_day c d;
@@ -89,32 +72,8 @@ module _ {c : Constants} {m : MonthSpan} (s : SpanFits c m) where
   next_is : m.next ≡ month_head c (k + 1)
   next_is = ap (λ x. x.next) s.is
 
-  pub head_before : m.head ≤ m.next
-  head_before = omega (arith, head_is, next_is, K.month_least k)
-
   pub length_fits_byte : Fits w8 (m.next - m.head)
   length_fits_byte = omega (arith, head_is, next_is, K.month_most k)
-
-  next_small : m.next ≤ 2 ^ 38
-  next_small = omega (arith, next_is, head_small c s.constants_fit.consistent (k + 1), s.small)
-
-  -- days of a month in twelfths of parts
-  twelfths_fit : {days : ℕ} → days ≤ 2 ^ 38 → Fits w64 (days * (12 * c.solar))
-  twelfths_fit h =
-      record { fits = lt_of_le_of_lt (mul-le-mul_right (12 * c.solar) h) (omega (arith, s.constants_fit.solar_days)) }
-
-  pub next_found : LastStepFits c 12 m.next
-  next_found =
-      record {
-        constants_fit = s.constants_fit;
-        steps_some = omega arith;
-        steps_most = omega arith;
-        day_some = omega (arith, next_is, K.month_least k);
-        day_small = next_small;
-      }
-
-  pub length_fits : Fits w64 ((m.next - m.head) * (12 * c.solar))
-  length_fits = twelfths_fit (omega (arith, next_small))
 
   in_is : (m.next - m.head) * (12 * c.solar) ≡ twelfths_in c k
   in_is = ap₂ (λ x y. (x - y) * (12 * c.solar)) next_is head_is
@@ -139,44 +98,8 @@ module _ {c : Constants} {m : MonthSpan} (s : SpanFits c m) where
         λ j. record { qi = step_is j; leap = leap j }
 
   -- The remainder of its new moon, by its head.
-  pub moon_fits : Fits w64 (k * c.month)
-  moon_fits =
-      let few : k ≤ 2 ^ 32 = omega (arith, s.small) in
-      record { fits = lt_of_le_of_lt (mul-le-mul_right c.month few) (omega (arith, s.constants_fit.months)) }
-
   by_head : m.head * c.lunar + new_moon_remainder c k ≡ k * c.month
   by_head = omega (arith, ap (λ d. d * c.lunar) head_is, moon_told c s.constants_fit.consistent k)
 
-  pub head_within : m.head * c.lunar ≤ k * c.month
-  head_within = omega (arith, by_head)
-
-  pub head_parts_fit : Fits w64 (m.head * c.lunar)
-  head_parts_fit = omega (arith, head_within, moon_fits.fits)
-
   pub remainder_is : k * c.month - m.head * c.lunar ≡ new_moon_remainder c k
   remainder_is = omega (arith, by_head)
-
-  pub remainder_fits : Fits w32 (k * c.month - m.head * c.lunar)
-  remainder_fits =
-      omega (
-        arith,
-        remainder_is,
-        remainder_below c s.constants_fit.consistent k,
-        s.constants_fit.lunar_days,
-      )
-
-  -- Month m as it is answered.
-  pub answered_month : {r : RegisterDay} → r ≡ as_register_day (register_day c m.head)
-      → record { refusal = 0; head = r; length = m.next - m.head; told = 0 } ≡ month_at c k
-  answered_month e =
-      let head = e ∙ ap (λ d. as_register_day (register_day c d)) head_is in
-      let length = ap₂ (λ x y. x - y) next_is head_is in
-      λ j. record { refusal = 0; head = head j; length = length j; told = 0 }
-
-  -- The month after it.
-  pub span_after : {next : ℕ} → next ≡ month_head c (k + 2)
-      → record { month = k + 1; head = m.next; next = next } ≡ month_span c (k + 1)
-  span_after e =
-      let two : k + 2 ≡ k + 1 + 1 = omega arith in
-      let next = e ∙ ap (month_head c) two in
-      λ j. record { month = k + 1; head = next_is j; next = next j }

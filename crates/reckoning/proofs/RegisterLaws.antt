@@ -11,11 +11,8 @@ use Rattle.calendar.proofs.Reckoned.{reckoned}
 use Rattle.calendar.proofs.EveryCalendar.{count_least, count_most, head_monotone}
 use Rattle.calendar.proofs.Spans.{span}
 use Rattle.calendar.proofs.Laws.{year_length_most}
-use Rattle.reckoning.specs.declared.month_spans.MonthSpan.{MonthSpan}
-use Rattle.reckoning.specs.MonthSpans.{month_span}
 use Rattle.reckoning.specs.Scope.{YearInScope}
-use Rattle.reckoning.specs.WordBounds.{InRegister, SpanFits, YearInRegister, YearsInRegister, MonthsInRegister}
-use Rattle.reckoning.proofs.MonthSpanLaws.{span_fits}
+use Rattle.reckoning.specs.WordBounds.{InRegister, YearInRegister, YearsInRegister, MonthsInRegister}
 
 -- Years elapsed at a year in scope.
 pub year_asked : {c : Constants} → YearsInRegister c → {year n : ℕ} → YearInScope year → n ≡ years_elapsed c year
@@ -61,11 +58,3 @@ module _ (c : Constants) (n : ℕ) (r : YearInRegister c n) where
 
   pub register_length_most : register_day c (head_of_year c (n + 1)) - register_day c (head_of_year c n) ≤ 384
   register_length_most = omega (arith, length_most, first_head, next_head_lem)
-
--- The months of a list, each as the code has it.
-module _ {c : Constants} {first count : ℕ} (r : MonthsInRegister c first count) where
-  pub month_fits : (i : ℕ) → i ≤ count → {m : MonthSpan} → m ≡ month_span c (first + i) → SpanFits c m
-  month_fits i h e = span_fits (first + i) r.constants_fit e (omega (arith, r.first_small, r.count_most))
-
-  pub head_in_register : (i : ℕ) → i ≤ count → {m : MonthSpan} → m ≡ month_span c (first + i) → InRegister c m.head
-  head_in_register i h e = subst (λ x. InRegister c x.head) (sym e) (r.head i h)

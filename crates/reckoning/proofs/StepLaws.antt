@@ -1,10 +1,7 @@
 -- Equal steps of a year: the code's numbers fit, and what it answers.
 use Prim.Native.Nat.{ℕ, ◌+◌, ◌*◌, ◌^◌, ◌≤◌, ◌<◌}
 use mathlib.Core.Path.{◌≡◌, refl, sym, ap, ◌∙◌}
-use native.Mathlib.Nat.{mul-le-mul, mul-le-mul_right, mul-pos, lt_of_le_of_lt}
 use native.Mathlib.Omega.{arith}
-use mir.Syntax.{w64}
-use mir.Val.{Fits}
 use Rattle.calendar.specs.declared.data.Constants.{Constants}
 use Rattle.calendar.specs.Systems.{years_elapsed}
 use Rattle.calendar.specs.Steps.{solstice, DividesYear, moment}
@@ -19,7 +16,7 @@ use Rattle.reckoning.specs.Asked.{Asked, asked_of}
 use Rattle.reckoning.specs.RefusalNumbers.{number_of}
 use Rattle.reckoning.specs.Told.{accepted_as}
 use Rattle.reckoning.specs.Requests.{no_moment, step_in, step_of}
-use Rattle.reckoning.specs.WordBounds.{ConstantsFit, StepFits, LastStepFits, YearInRegister}
+use Rattle.reckoning.specs.WordBounds.{ConstantsFit, StepFits, YearInRegister}
 use Rattle.reckoning.proofs.RefusalCases.{accepted_step}
 use Rattle.reckoning.proofs.ToldCases.{number_not_0}
 use Rattle.reckoning.proofs.AnswerUnless.{refused, answered, asked_in_register}
@@ -45,21 +42,6 @@ step_fits {c} {n} s u i r whole s_some u_some u-small next h =
         small = omega (arith, r.next_solstice_day);
       };
     }
-
--- The last of s steps a year before day d: how it is found fits.
-module _ {c : Constants} {s d : ℕ} (f : LastStepFits c s d) where
-  divisor_small : s * c.solar ≤ 72 * c.solar
-  divisor_small = mul-le-mul_right c.solar f.steps_most
-
-  pub divisor_fits : Fits w64 (s * c.solar)
-  divisor_fits = omega (arith, divisor_small, f.constants_fit.solar_days)
-
-  pub end_fits : Fits w64 (d * (s * c.solar))
-  end_fits =
-      record { fits = lt_of_le_of_lt (mul-le-mul f.day_small divisor_small) (omega (arith, f.constants_fit.solar_days)) }
-
-  pub end_some : 1 ≤ d * (s * c.solar)
-  end_some = mul-pos f.day_some (mul-pos f.steps_some f.constants_fit.consistent.solar_some)
 
 -- What the laws ask of a division, for any constants.
 pub record Sound (division : Division) : Type 0 where

@@ -2,7 +2,7 @@
 -- solstice.
 use Prim.Native.Nat.{ℕ, ◌+◌, ◌≤◌, ◌<◌}
 use mathlib.Core.Path.{◌≡◌, sym, ◌∙◌}
-use mathlib.Core.Bool.{Bool, true, false, true≢false}
+use mathlib.Core.Bool.{true, false, true≢false}
 use native.Mathlib.Omega.{arith}
 use borrow.Author.Tests.{ltb-true, ltb-false, lt-ltb, le-ltb, lt-leb, le-leb}
 use Rattle.calendar.specs.declared.data.Constants.{Constants}
@@ -34,9 +34,6 @@ pub in_time : (c : Constants) (n : ℕ) → out_of_scope c n ≡ false → InTim
 in_time c n e =
     by_time c n (λ a f. absurd (true≢false (sym f ∙ e))) (λ a f. absurd (true≢false (sym f ∙ e))) (λ t f. t)
 
-pub tested_in_scope : (c : Constants) (n : ℕ) {b : Bool} → b ≡ out_of_scope c n → b ≡ false → out_of_scope c n ≡ false
-tested_in_scope c n test e = sym test ∙ e
-
 -- A day lies in years 1 to 3000, a year m beginning on count day `begins m`.
 abbrev pub WithinYears : (ℕ → ℕ) → Constants → ℕ → Type 0
 WithinYears begins c d = (begins (years_elapsed c 1) ≤ d) × (d < begins (years_elapsed c 3001))
@@ -62,10 +59,6 @@ pub before_years : (begins : ℕ → ℕ) (c : Constants) (r : ℕ) → before_e
     → outside_years begins c r ≡ true
 before_years begins c r early =
     simp (lt-ltb (r + c.anchor) (begins (years_elapsed c 1) + c.epoch) (omega (arith, ltb-true (r + c.anchor) c.epoch early)))
-
--- One from the epoch on has a count day.
-pub tested_from_epoch : (c : Constants) (r : ℕ) {early : Bool} → early ≡ before_epoch c r → early ≡ false → before_epoch c r ≡ false
-tested_from_epoch c r test passed = sym test ∙ passed
 
 pub is_its_day : (c : Constants) (r : ℕ) {d : ℕ} → before_epoch c r ≡ false → d ≡ count_day c r → IsRegisterDay c r d
 is_its_day c r from e = omega (arith, ltb-false (r + c.anchor) c.epoch from)

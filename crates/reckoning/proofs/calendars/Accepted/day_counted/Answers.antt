@@ -1,13 +1,7 @@
 use native.Mathlib.Omega.{arith}
 use Rattle.reckoning.proofs.MonthSpanLaws.{place_from, place_fits, day_span_fits}
-use Rattle.reckoning.proofs.HeadLaws.{head_asked, from_epoch}
 use Rattle.reckoning.proofs.OrdinalRequest.{day_small, qi_from, ordinal_past, ordinal_in_register, ordinal_found}
 use Rattle.reckoning.proofs.calendars.Accepted.day_counted.Goals as goal
-
-pub count_day-requires : goal.count_day-requires
-count_day-requires c =
-    let asked = c.args.self in
-    from_epoch (head_asked asked.calendar.fits asked.in_scope) c.requires.0
 
 pub last_qi-last-requires : goal.last_qi-last-requires
 last_qi-last-requires c =

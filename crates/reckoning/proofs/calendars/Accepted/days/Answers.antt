@@ -1,6 +1,4 @@
-use mathlib.Core.Path.{ap, ◌∙◌}
-use Rattle.reckoning.specs.Told.{days_answered}
-use Rattle.reckoning.proofs.HeadLaws.{head_asked, head_asked_next, days_between, days_of_lem}
+use Rattle.reckoning.proofs.HeadLaws.{head_asked, head_asked_next, days_between}
 use Rattle.reckoning.proofs.calendars.Accepted.days.Goals as goal
 
 pub head_of_year-head-requires : goal.head_of_year-head-requires
@@ -11,6 +9,3 @@ head_of_year-next-requires c = search head_asked_next
 
 pub between-requires : goal.between-requires
 between-requires c = days_between c.args.self.calendar.fits c.args.self.in_scope c.head_of_year-head.ensures c.head_of_year-next.ensures
-
-pub returns : goal.returns
-returns c = ap days_answered c.between.ensures ∙ search days_of_lem

@@ -1,9 +1,5 @@
-use Rattle.reckoning.proofs.RegisterLaws.{year_asked}
 use Rattle.reckoning.proofs.LeapMonthSearch.{told_none, told_number}
 use Rattle.reckoning.proofs.calendars.Accepted.leap_number.Goals as goal
-
-pub last_before_leap-last-requires : goal.last_before_leap-last-requires
-last_before_leap-last-requires c = search year_asked
 
 pub returns-then-last-ge12 : goal.returns-then-last-ge12
 returns-then-last-ge12 c = search told_none

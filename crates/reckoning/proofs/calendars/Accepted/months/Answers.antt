@@ -1,5 +1,4 @@
-use mathlib.Core.Path.{◌∙◌}
-use Rattle.reckoning.proofs.HeadLaws.{head_asked, head_asked_next, closing_in_register, months_rise, months_listed, months_of}
+use Rattle.reckoning.proofs.HeadLaws.{head_asked, head_asked_next, closing_in_register, months_rise, months_listed}
 use Rattle.reckoning.proofs.calendars.Accepted.months.Goals as goal
 
 pub first_month_of_year-first-requires : goal.first_month_of_year-first-requires
@@ -18,6 +17,3 @@ pub months_from-requires : goal.months_from-requires
 months_from-requires c =
     let fits = c.args.self.calendar.fits in
     months_listed fits c.args.self.in_scope c.first_month_of_year-first.ensures c.first_month_of_year-next.ensures c.register_day-closing.ensures
-
-pub returns : goal.returns
-returns c = c.months_from.ensures ∙ search months_of

@@ -1,14 +1,10 @@
 use native.Mathlib.Omega.{arith}
 use Rattle.reckoning.proofs.MonthSpanLaws.{place_from, place_fits, day_span_fits}
-use Rattle.reckoning.proofs.YearOfDay.{tested_in_scope, tested_from_epoch}
 use Rattle.reckoning.proofs.DateRequest.{date_before, date_outside, date_inside}
 use Rattle.reckoning.proofs.calendars.Calendar.date.Goals as goal
 
 pub returns-then-before_epoch : goal.returns-then-before_epoch
 returns-then-before_epoch c = search date_before
-
-pub count_day-d-requires : goal.count_day-d-requires
-count_day-d-requires c = search tested_from_epoch
 
 pub last_qi-last-requires : goal.last_qi-last-requires
 last_qi-last-requires c = day_span_fits c.args.self.fits.constants_fit _ (omega arith) c.month_of_day-m.ensures
@@ -21,9 +17,6 @@ overflow_sub-place c = search place_from
 
 pub overflow_cast-place : goal.overflow_cast-place
 overflow_cast-place c = search place_fits
-
-pub common_year-requires : goal.common_year-requires
-common_year-requires c = search tested_in_scope
 
 pub returns : goal.returns
 returns c = search date_inside

@@ -8,7 +8,6 @@ use Rattle.reckoning.specs.MonthSpans.{month_span, last_qi}
 use Rattle.reckoning.specs.Requests.{as_register_day, no_heads, no_numbers, no_qi, months_from}
 use Rattle.reckoning.specs.Filled.{filled}
 use Rattle.reckoning.proofs.FilledLaws.{filled_none, filled_more}
-use Rattle.reckoning.proofs.RegisterLaws.{head_in_register, month_fits}
 use Rattle.reckoning.proofs.calendars.Calendar.months_from.Goals as goal
 
 pub loop-i-init : goal.loop-i-init
@@ -21,20 +20,6 @@ loop-i-init c =
       filled_none _ _,
       filled_none _ _,
     )
-
-pub register_day-head-requires : goal.register_day-head-requires
-register_day-head-requires c = head_in_register c.requires.2 _ (omega arith) c.loop-i.invariant.0
-
-pub last_qi-last-requires : goal.last_qi-last-requires
-last_qi-last-requires c = month_fits c.requires.2 _ (omega arith) c.loop-i.invariant.0
-
-pub new_moon_remainder-requires : goal.new_moon_remainder-requires
-new_moon_remainder-requires c =
-    month_fits c.requires.2 _ (omega arith) c.loop-i.invariant.0
-
-pub month_after-m-requires : goal.month_after-m-requires
-month_after-m-requires c =
-    month_fits c.requires.2 _ (omega arith) c.loop-i.invariant.0
 
 pub loop-i-preserved : goal.loop-i-preserved
 loop-i-preserved c =
