@@ -23,6 +23,8 @@ pub(crate) struct LastQi {
     pub leap: u8,
 }
 
+// SpanFits stays a clause: it leaves room for two months more, and the month after one that fits may have room for only
+// one, so that `month_after` could not answer a type that held it.
 impl Calendar {
     // The month that has count day d. The parts from its new moon to the end of d have the days before d, and those left
     // of the month the days after it: neither head needs a product of its own.

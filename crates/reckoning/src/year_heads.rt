@@ -13,6 +13,8 @@ use crate::month_spans::MonthSpan;
 use crate::refusal::{Refusal, out_of_years};
 use calendar::data::RegisterDay;
 
+// HeadInRegister stays a clause: it is asked of a year in scope and of the year after, and a type for both would need two
+// constructors with longer clauses than these.
 impl Calendar {
     // The register day of a year's head, reckoned.
     fn reckoned_head(self, year: u32) -> RegisterDay
