@@ -42,7 +42,7 @@ impl Accepted {
     {
         Accepted {
             calendar: Calendar::of(system, c),
-            year: year,
+            year,
         }
     }
 }

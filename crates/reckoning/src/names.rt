@@ -38,6 +38,6 @@ impl Accepted {
     {
         let days = self.days();
         let names = names_from(days.head, days.length as usize);
-        Sheet { names: names }
+        Sheet { names }
     }
 }
