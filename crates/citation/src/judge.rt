@@ -5,6 +5,7 @@ ghost use Rattle.citation.specs.Store.{judge_kind, judge_of};
 ghost use Rattle.citation.specs.JudgeParts.{Whole, Found, is_whole};
 ghost use Rattle.citation.specs.Told.{judgement_answered, told_judgement};
 
+use crate::kinds::{DATE, NAME, ORDINAL, REGISTER_DAY, RETIRED};
 use crate::output::Record;
 use calendar::data::{DayName, Ordinal, RegisterDay};
 use little_endian::{le16, le32};
@@ -49,7 +50,7 @@ fn accept(day: RegisterDay, cited: MonthCited, place: u8) -> Judgement
     }
 }
 
-// Kind 3.
+// Of kind ORDINAL.
 fn judge_ordinal(system: u8, year: u16, ordinal: Ordinal) -> Result<Judgement, Refusal>
     ensures { told_judgement result ≡ judge_ordinal system year ordinal.0 }
 {
@@ -63,7 +64,7 @@ fn judge_ordinal(system: u8, year: u16, ordinal: Ordinal) -> Result<Judgement, R
     Ok(accept(d.day, cited, d.place))
 }
 
-// Kind 4.
+// Of kind REGISTER_DAY.
 fn judge_register_day(system: u8, day: RegisterDay) -> Result<Judgement, Refusal>
     ensures { told_judgement result ≡ judge_register_day system day.0 }
 {
@@ -77,7 +78,7 @@ fn judge_register_day(system: u8, day: RegisterDay) -> Result<Judgement, Refusal
     Ok(accept(day, cited, d.day))
 }
 
-// Kind 1, in its month.
+// Of kind DATE, in its month.
 fn judge_day(m: Month, cited: MonthCited, day: u8) -> Result<Judgement, Refusal>
     requires { Found m cited.system cited.year cited.number cited.leap }
     ensures { told_judgement result ≡ judge_day cited.system cited.year cited.number cited.leap day }
@@ -100,7 +101,7 @@ fn days_to_name(head: RegisterDay, name: DayName) -> u32
     (name.0 as u32 + 10 + SIXTIES - head.0) % 60
 }
 
-// Kind 5, in its month.
+// Of kind NAME, in its month.
 fn judge_name(m: Month, cited: MonthCited, name: DayName) -> Result<Judgement, Refusal>
     requires { Found m cited.system cited.year cited.number cited.leap }
     ensures { told_judgement result ≡ judge_name cited.system cited.year cited.number cited.leap name.0 }
@@ -133,12 +134,12 @@ fn judge_kind(s: &[u8], kind: u32) -> Result<Judgement, Refusal>
             number,
             leap,
         };
-        if kind == 1 {
+        if kind == DATE {
             return judge_day(m, cited, s[9]);
         }
         return judge_name(m, cited, DayName(s[9]));
     }
-    if kind == 3 {
+    if kind == ORDINAL {
         let year = le16(s[5], s[6]) as u16;
         let ordinal = le16(s[7], s[8]) as u16;
         return judge_ordinal(system, year, Ordinal(ordinal));
@@ -146,8 +147,8 @@ fn judge_kind(s: &[u8], kind: u32) -> Result<Judgement, Refusal>
     judge_register_day(system, RegisterDay(le32(s[5], s[6], s[7], s[8])))
 }
 
-// A whole record: the length field and the length of the input are those of its kind. Kinds 1 and 5 have ten bytes, and
-// 3 and 4 nine.
+// A whole record: the length field and the length of the input are those of its kind. By month and by name a record has
+// ten bytes, and by ordinal and by register day nine.
 fn is_whole(s: &[u8]) -> bool
     ensures { result ≡ is_whole s.now }
 {
@@ -163,12 +164,12 @@ fn is_whole(s: &[u8]) -> bool
     }
     let kind = le16(s[2], s[3]);
     if length == 9 {
-        return !outside(3, 4, kind);
+        return !outside(ORDINAL, REGISTER_DAY, kind);
     }
-    if kind == 1 {
+    if kind == DATE {
         return true;
     }
-    kind == 5
+    kind == NAME
 }
 
 // The refusal of what is no whole record: the first in the order of the table.
@@ -180,10 +181,10 @@ fn frame_refusal(s: &[u8]) -> Refusal
         return Refusal::Short;
     }
     let kind = le16(s[2], s[3]);
-    if outside(1, 5, kind) {
+    if outside(DATE, NAME, kind) {
         return Refusal::Kind;
     }
-    if kind == 2 {
+    if kind == RETIRED {
         return Refusal::Retired;
     }
     Refusal::Length

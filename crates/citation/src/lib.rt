@@ -3,5 +3,6 @@
 #![tactic(auto)]
 
 pub mod judge;
+pub mod kinds;
 pub mod output;
 pub mod store;

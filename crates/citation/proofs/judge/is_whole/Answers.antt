@@ -22,8 +22,8 @@ returns-then-length-eq9 c =
     ∙ ap (λ k. not (outside 3 4 k)) c.le16-kind.ensures.0
     ∙ whole_of_nine s c.if-length-eq9.true (omega arith)
 
-pub returns-then-kind-eq1 : goal.returns-then-kind-eq1
-returns-then-kind-eq1 c =
+pub returns-then-kind-eq-DATE : goal.returns-then-kind-eq-DATE
+returns-then-kind-eq-DATE c =
     let s = c.args.s.now in
     whole_of_one s (omega arith) (omega arith) (omega arith)
 
