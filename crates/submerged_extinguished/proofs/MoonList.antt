@@ -10,7 +10,7 @@ use Rattle.reckoning.specs.Filled.{filled}
 use Rattle.reckoning.specs.WordBounds.{MonthsInRegister}
 use Rattle.reckoning.proofs.FilledLaws.{filled_none, filled_more}
 use Rattle.submerged_extinguished.specs.Records.{MoonsAnswer}
-use Rattle.submerged_extinguished.specs.declared.data.Extinguished.{Extinguished}
+use Rattle.submerged_extinguished.specs.declared.data.DayDistance.{DayDistance}
 use Rattle.submerged_extinguished.specs.declared.moons.Moon.{Moon}
 use Rattle.submerged_extinguished.specs.declared.rules.Rule.{Rule}
 use Rattle.submerged_extinguished.specs.Answers.{extinguished_at, no_moons, extinguished_from}
@@ -20,12 +20,12 @@ use Rattle.submerged_extinguished.specs.WordBounds.{MoonFits}
 use Rattle.submerged_extinguished.proofs.MoonLaws.{next_moon}
 
 -- So far i new moons are listed, and `moon` is the next, counted from the new moon of whatever month was the first.
-pub record Listing (c : Constants) (rule : Rule) (count : ℕ) (start : Moon) (i : ℕ) (moons : List Extinguished) (moon : Moon) : Type 0 where
+pub record Listing (c : Constants) (rule : Rule) (count : ℕ) (start : Moon) (i : ℕ) (moons : List DayDistance) (moon : Moon) : Type 0 where
   pub so_far : (k : ℕ) → start ≡ moon_at c k → MonthsInRegister c k count
       → (moon ≡ moon_at c (k + i)) × (moons ≡ filled (λ j. extinguished_at c rule (k + j)) no_moons i)
 
 module _ {c : Constants} {rule : Rule} {count : ℕ} {start : Moon} where
-  pub listing_starts : {moons : List Extinguished} → moons ≡ no_moons → Listing c rule count start 0 moons start
+  pub listing_starts : {moons : List DayDistance} → moons ≡ no_moons → Listing c rule count start 0 moons start
   listing_starts is =
       record {
         so_far =
@@ -34,7 +34,7 @@ module _ {c : Constants} {rule : Rule} {count : ℕ} {start : Moon} where
             (at ∙ ap (moon_at c) here, is ∙ filled_none _ _);
       }
 
-  module _ {i : ℕ} {moons : List Extinguished} {moon : Moon} (l : Listing c rule count start i moons moon) where
+  module _ {i : ℕ} {moons : List DayDistance} {moon : Moon} (l : Listing c rule count start i moons moon) where
     pub moon_fits : (k : ℕ) → start ≡ moon_at c k → MonthsInRegister c k count → i < count → MoonFits c moon
     moon_fits k at there h =
         let is = (l.so_far k at there).0 in
@@ -46,7 +46,7 @@ module _ {c : Constants} {rule : Rule} {count : ℕ} {start : Moon} where
           remainder_below = omega (arith, remainder_below c ok (k + i));
         }
 
-    pub listing_more : {one : Extinguished} {next : Moon} → RuleHolds c rule → i < count → one ≡ extinguished_on rule moon → next ≡ moon_after c rule moon
+    pub listing_more : {one : DayDistance} {next : Moon} → RuleHolds c rule → i < count → one ≡ extinguished_on rule moon → next ≡ moon_after c rule moon
         → Listing c rule count start (i + 1) (set moons i one) next
     listing_more holds h one-is next_is =
         record {
@@ -63,7 +63,7 @@ module _ {c : Constants} {rule : Rule} {count : ℕ} {start : Moon} where
               );
         }
 
-  pub listing_all : {i : ℕ} {moons : List Extinguished} {moon : Moon} → Listing c rule count start i moons moon → i ≡ count
+  pub listing_all : {i : ℕ} {moons : List DayDistance} {moon : Moon} → Listing c rule count start i moons moon → i ≡ count
       → (k : ℕ) → start ≡ moon_at c k → MonthsInRegister c k count
       → ◌≡◌ {A = MoonsAnswer} (record { refusal = 0; count = count; moons = moons }) (extinguished_from c rule k count)
   unfolding extinguished_from

@@ -10,7 +10,7 @@ use Rattle.reckoning.specs.ComputedRefusals.{outside, year_refusal}
 use Rattle.reckoning.specs.Filled.{filled}
 use Rattle.reckoning.specs.RefusalNumbers.{SYSTEM, DAY}
 use Rattle.reckoning.specs.Requests.{as_register_day, answer_unless, qi_of}
-use Rattle.submerged_extinguished.specs.declared.data.Extinguished.{Extinguished}
+use Rattle.submerged_extinguished.specs.declared.data.DayDistance.{DayDistance}
 use Rattle.submerged_extinguished.specs.declared.rules.Rule.{Rule}
 use Rattle.submerged_extinguished.specs.Records.{DayAnswer, MoonsAnswer}
 use Rattle.submerged_extinguished.specs.Rules.{last_rule, rule_of}
@@ -57,15 +57,15 @@ abbrev pub submerged_of : ℕ → ℕ → ℕ → DayAnswer
 submerged_of system year i = submerged_in system (qi_of system year i)
 
 -- The extinguished day of the new moon of month k.
-abbrev pub extinguished_at : Constants → Rule → ℕ → Extinguished
+abbrev pub extinguished_at : Constants → Rule → ℕ → DayDistance
 extinguished_at c rule k =
     record { day = as_register_day (register_day c (month_head c k)); distance = extinguished_by rule (new_moon_remainder c k) }
 
 -- A place that is not used.
-abbrev pub unused : Extinguished
+abbrev pub unused : DayDistance
 unused = record { day = as_register_day 0; distance = None }
 
-abbrev pub no_moons : List Extinguished
+abbrev pub no_moons : List DayDistance
 no_moons = replicate 13 unused
 
 -- Those of `count` months from month `first` on, in order, and unused places after them.
@@ -87,7 +87,7 @@ extinguished_days_of system year =
     (no_days SYSTEM)
     (answer_unless (year_refusal system year) system year (extinguished_days_in (rule_of system)) no_days)
 
-abbrev pub answer_on : Extinguished → DayAnswer
+abbrev pub answer_on : DayDistance → DayAnswer
 answer_on moon = answer_at moon.day moon.distance
 
 -- The extinguished day of the new moon at a place of a year, from 1; DAY where the year lacks it.

@@ -4,7 +4,7 @@ use Rattle.calendar.specs.declared.data.Constants.{Constants}
 use Rattle.calendar.specs.Systems.{register_day}
 use Rattle.calendar.specs.Month.{new_moon_remainder, month_head}
 use Rattle.reckoning.specs.Requests.{as_register_day}
-use Rattle.submerged_extinguished.specs.declared.data.Extinguished.{Extinguished}
+use Rattle.submerged_extinguished.specs.declared.data.DayDistance.{DayDistance}
 use Rattle.submerged_extinguished.specs.declared.moons.Moon.{Moon}
 use Rattle.submerged_extinguished.specs.declared.rules.Rule.{Rule}
 use Rattle.submerged_extinguished.specs.Answers.{extinguished_by}
@@ -21,7 +21,7 @@ moon_after c rule m =
     (record { day = m.day + 30; remainder = m.remainder - rule.shortfall })
 
 -- Its extinguished day.
-abbrev pub extinguished_on : Rule → Moon → Extinguished
+abbrev pub extinguished_on : Rule → Moon → DayDistance
 extinguished_on rule m = record { day = as_register_day m.day; distance = extinguished_by rule m.remainder }
 
 -- How many months a year of so many days has.

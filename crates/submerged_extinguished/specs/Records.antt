@@ -2,7 +2,7 @@
 -- it was refused (see `Answers`).
 use Rattle.std.specs.Prelude.{ℕ, List, Option}
 use Rattle.calendar.specs.declared.data.RegisterDay.{RegisterDay}
-use Rattle.submerged_extinguished.specs.declared.data.Extinguished.{Extinguished}
+use Rattle.submerged_extinguished.specs.declared.data.DayDistance.{DayDistance}
 
 -- A submerged or an extinguished day.
 pub record DayAnswer : Type 0 where
@@ -14,4 +14,4 @@ pub record DayAnswer : Type 0 where
 pub record MoonsAnswer : Type 0 where
   pub refusal : ℕ
   pub count : ℕ
-  pub moons : List Extinguished
+  pub moons : List DayDistance

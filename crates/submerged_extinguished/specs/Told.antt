@@ -3,15 +3,15 @@ use Rattle.std.specs.Prelude.{Result}
 use Rattle.reckoning.specs.declared.refusal.Refusal.{Refusal}
 use Rattle.reckoning.specs.RefusalNumbers.{number_of}
 use Rattle.reckoning.specs.Told.{told}
-use Rattle.submerged_extinguished.specs.declared.data.Answer.{Answer}
+use Rattle.submerged_extinguished.specs.declared.data.DayDistance.{DayDistance}
 use Rattle.submerged_extinguished.specs.declared.data.ExtinguishedDays.{ExtinguishedDays}
 use Rattle.submerged_extinguished.specs.Records.{DayAnswer, MoonsAnswer}
 use Rattle.submerged_extinguished.specs.Answers.{no_answer, no_days}
 
-abbrev pub day_answered : Answer → DayAnswer
+abbrev pub day_answered : DayDistance → DayAnswer
 day_answered a = record { refusal = 0; day = a.day; distance = a.distance }
 
-abbrev pub told_day : Result Answer Refusal → DayAnswer
+abbrev pub told_day : Result DayDistance Refusal → DayAnswer
 told_day r = told day_answered (λ e. no_answer (number_of e)) r
 
 abbrev pub moons_answered : ExtinguishedDays → MoonsAnswer

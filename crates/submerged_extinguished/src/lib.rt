@@ -7,7 +7,7 @@ ghost use Rattle.submerged_extinguished.specs.Answers.{submerged_of, extinguishe
 ghost use Rattle.submerged_extinguished.specs.Outcomes.{SubmergedOutcome, ExtinguishedOutcome};
 ghost use Rattle.submerged_extinguished.specs.Told.{told_day, told_moons};
 
-use data::{Answer, ExtinguishedDays};
+use data::{DayDistance, ExtinguishedDays};
 use reckoning::refusal::{Refusal, outside};
 
 pub mod data;
@@ -16,12 +16,12 @@ mod moons;
 mod rules;
 
 // The submerged day of qi i of a year, i from 0 to 24. Refused System, then Year, then Step.
-pub fn submerged(system: u32, year: u32, i: u32) -> Result<Answer, Refusal>
+pub fn submerged(system: u32, year: u32, i: u32) -> Result<DayDistance, Refusal>
     ensures { (told_day result ≡ submerged_of system year i) × SubmergedOutcome system year i (told_day result) }
 {
     let ruled = rules::with_rule(system)?;
     let qi = reckoning::qi(system, year, i)?;
-    Ok(Answer {
+    Ok(DayDistance {
         day: qi.day,
         distance: distances::submerged(ruled, qi.parts, qi.units),
     })
@@ -39,16 +39,12 @@ pub fn extinguished_days(system: u32, year: u32) -> Result<ExtinguishedDays, Ref
 
 // The extinguished day of the new moon at a place of a year, from 1. Refused System, then Year, then Day for a place that
 // the year lacks.
-pub fn extinguished(system: u32, year: u32, place: u32) -> Result<Answer, Refusal>
+pub fn extinguished(system: u32, year: u32, place: u32) -> Result<DayDistance, Refusal>
     ensures { (told_day result ≡ extinguished_of system year place) × ExtinguishedOutcome system year place (told_day result) }
 {
     let days = extinguished_days(system, year)?;
     if outside(1, days.count as u32, place) {
         return Err(Refusal::Day);
     }
-    let moon = days.moons[place as usize - 1];
-    Ok(Answer {
-        day: moon.day,
-        distance: moon.distance,
-    })
+    Ok(days.moons[place as usize - 1])
 }

@@ -9,7 +9,7 @@ ghost use Rattle.submerged_extinguished.specs.Told.{moons_answered};
 ghost use Rattle.submerged_extinguished.specs.Rules.{HasRule, rule_of};
 ghost use Rattle.submerged_extinguished.specs.WordBounds.{HeadFits, MoonFits};
 
-use crate::data::{Extinguished, ExtinguishedDays};
+use crate::data::{DayDistance, ExtinguishedDays};
 use crate::rules;
 use crate::rules::Numbers;
 use calendar::data::RegisterDay;
@@ -23,10 +23,10 @@ pub(crate) struct Moon {
 }
 
 // A place that is not used.
-fn unused() -> Extinguished
+fn unused() -> DayDistance
     ensures { result ≡ unused }
 {
-    Extinguished {
+    DayDistance {
         day: RegisterDay(0),
         distance: None,
     }
@@ -69,10 +69,10 @@ impl Numbers {
     }
 
     // The extinguished day of a new moon.
-    fn extinguished_on(self, moon: Moon) -> Extinguished
+    fn extinguished_on(self, moon: Moon) -> DayDistance
         ensures { result ≡ extinguished_on self.rule moon }
     {
-        Extinguished {
+        DayDistance {
             day: RegisterDay(moon.day),
             distance: self.extinguished(moon.remainder),
         }

@@ -10,7 +10,7 @@ use Rattle.std.specs.Prelude.{IsOk}
 use Rattle.reckoning.specs.declared.refusal.Refusal.{Refusal}
 use Rattle.reckoning.specs.Scope.{YearInScope}
 use Rattle.reckoning.proofs.ToldCases.{number_not_0}
-use Rattle.submerged_extinguished.specs.declared.data.Answer.{Answer}
+use Rattle.submerged_extinguished.specs.declared.data.DayDistance.{DayDistance}
 use Rattle.submerged_extinguished.specs.Rules.{HasRule}
 use Rattle.submerged_extinguished.specs.Outcomes.{SubmergedOutcome}
 use Rattle.submerged_extinguished.specs.Told.{told_day}
@@ -32,12 +32,12 @@ pub wrote_asked : {b a : List ℕ} {at e : ℕ} {got : DayAnswer} (system n i : 
 wrote_asked system n i is w = wrote_as (ap (qi_told i) is) w
 
 -- Where qi 0 is answered, so is each.
-pub each_answered : {system year i : ℕ} (r : Result Answer Refusal) → (submerged_of system year 0).refusal ≡ 0 → i < 25
+pub each_answered : {system year i : ℕ} (r : Result DayDistance Refusal) → (submerged_of system year 0).refusal ≡ 0 → i < 25
     → SubmergedOutcome system year i (told_day r)
     → IsOk r
 each_answered {system} {year} {i} r none below this = by_first (submerged_answered system year 0)
   where
-    answered : (r : Result Answer Refusal) → (told_day r).refusal ≡ 0 → IsOk r
+    answered : (r : Result DayDistance Refusal) → (told_day r).refusal ≡ 0 → IsOk r
     answered (Ok a) e = refl
     answered (Err x) e = absurd (number_not_0 x e)
 

@@ -1,6 +1,6 @@
 -- The pages that the almanac prints of submerged and extinguished days: their lines, as bytes.
 use Rattle.std.specs.Prelude.{ℕ, ◌+◌, List, [], ◌∷◌, ◌++◌, get_or, Option}
-use Rattle.submerged_extinguished.specs.declared.data.Extinguished.{Extinguished}
+use Rattle.submerged_extinguished.specs.declared.data.DayDistance.{DayDistance}
 use Rattle.submerged_extinguished.specs.Records.{DayAnswer, MoonsAnswer}
 use Rattle.submerged_extinguished.specs.Answers.{unused, submerged_of, extinguished_days_of}
 use Rattle.text.specs.Piece.{field, title, numbered, last_field, told_unless, texts_up_to}
@@ -34,7 +34,7 @@ submerged_page system year =
     page_with submerged_word system year (submerged_of system year 0).refusal (qi_lines system year)
 
 -- "moon", its place from 1, its day, and the distance of its extinguished day.
-abbrev pub moon_line : ℕ → Extinguished → List ℕ
+abbrev pub moon_line : ℕ → DayDistance → List ℕ
 moon_line place moon = distance_line (109 ∷ 111 ∷ 111 ∷ 110 ∷ []) place moon.day.0 moon.distance
 
 -- That of the i-th new moon, from 0.

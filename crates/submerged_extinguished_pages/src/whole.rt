@@ -6,9 +6,9 @@ ghost use Rattle.submerged_extinguished.specs.Told.{day_answered, moons_answered
 ghost use Rattle.submerged_extinguished_pages.specs.DistancePages.{qi_told, qi_lines, submerged_page, moon_line, moon_lines, extinguished_page};
 
 use crate::line;
-use submerged_extinguished::data::{Answer, Extinguished, ExtinguishedDays};
+use submerged_extinguished::data::{DayDistance, ExtinguishedDays};
 
-fn qi_line(out: &mut [u8], at: usize, i: u32, answer: Answer) -> usize
+fn qi_line(out: &mut [u8], at: usize, i: u32, answer: DayDistance) -> usize
     requires { at + 36 ≤ length out.old }
     ensures { Wrote out.old at (qi_told i (day_answered answer)) out.new result × (result ≤ at + 36) }
 {
@@ -43,7 +43,7 @@ pub(crate) fn submerged(out: &mut [u8], at: usize, system: u32, year: u32) -> us
 }
 
 // The line of the new moon at a place, from 1.
-fn moon_line(out: &mut [u8], at: usize, place: u32, moon: Extinguished) -> usize
+fn moon_line(out: &mut [u8], at: usize, place: u32, moon: DayDistance) -> usize
     requires { at + 38 ≤ length out.old }
     ensures { Wrote out.old at (moon_line place moon) out.new result × (result ≤ at + 38) }
 {
