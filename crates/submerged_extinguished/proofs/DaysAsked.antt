@@ -88,44 +88,42 @@ module _ (system year : ℕ) {days : DaysAnswer} (asked : days ≡ days_of syste
       (λ number e range carried is. refused number e range.at_least carried)
       found
 
-  module _ (has : HasRule system) where
-    pub returns_refusal : {v : MoonsAnswer} → (days.refusal ≡ 0 → ⊥) → v ≡ no_days days.refusal
-        → v ≡ extinguished_days_of system year
-    returns_refusal some is =
-        by_days
-        (λ number e positive carried. is ∙ ap no_days carried ∙ sym (days_refused system year has number e positive))
-        (λ s given. absurd (some (ap (λ v. v.refusal) given)))
+  pub returns_refusal : {v : MoonsAnswer} → HasRule system → (days.refusal ≡ 0 → ⊥) → v ≡ no_days days.refusal
+      → v ≡ extinguished_days_of system year
+  returns_refusal has some is =
+      by_days
+      (λ number e positive carried. is ∙ ap no_days carried ∙ sym (days_refused system year has number e positive))
+      (λ s given. absurd (some (ap (λ v. v.refusal) given)))
 
-    module _ (none : days.refusal ≡ 0) {count : ℕ} (counted : count ≡ months_in days.length) where
-      in_scope_days : {P : Type 0} → (InScope system year → days ≡ days_in c (years_elapsed c year) → P) → P
-      in_scope_days found = by_days (λ number e positive carried. absurd (omega arith)) found
+  module _ (none : days.refusal ≡ 0) {count : ℕ} (counted : count ≡ months_in days.length) where
+    in_scope_days : {P : Type 0} → (InScope system year → days ≡ days_in c (years_elapsed c year) → P) → P
+    in_scope_days found = by_days (λ number e positive carried. absurd (omega arith)) found
 
-      -- Its first month and how many it has are those of the year.
-      months_are : (s : InScope system year) → days ≡ days_in c (years_elapsed c year)
-          → (first ≡ first_month c (years_elapsed c year))
-          × (count ≡ first_month c (years_elapsed c year + 1) - first_month c (years_elapsed c year))
-      months_are s given =
-          let n = years_elapsed c year in
-          let r = year_in_register system year s.year_inside in (
-            ap (λ v. month_of_day c (count_day c v.head.0)) given ∙ month_of_register_head c n r,
-            counted ∙ ap (λ v. months_in v.length) given ∙ months_by_days c n r,
-          )
+    -- Its first month and how many it has are those of the year.
+    months_are : (s : InScope system year) → days ≡ days_in c (years_elapsed c year)
+        → (first ≡ first_month c (years_elapsed c year))
+        × (count ≡ first_month c (years_elapsed c year + 1) - first_month c (years_elapsed c year))
+    months_are s given =
+        let n = years_elapsed c year in
+        let r = year_in_register system year s.year_inside in (
+          ap (λ v. month_of_day c (count_day c v.head.0)) given ∙ month_of_register_head c n r,
+          counted ∙ ap (λ v. months_in v.length) given ∙ months_by_days c n r,
+        )
 
-      pub months_fit : HasRule system × HeadFits c days.head.0 × MonthsInRegister c first count
-      months_fit =
-          in_scope_days
-          (λ s given.
-          let n = years_elapsed c year in
-          let r = year_in_register system year s.year_inside in
-          let are = months_are s given in (
-            has,
-            subst (HeadFits c) (sym (ap (λ v. v.head.0) given)) (head_fits c n r),
-            subst₂ (MonthsInRegister c) (sym are.0) (sym are.1) (months_in_register c n r),
-          ))
+    pub months_fit : HeadFits c days.head.0 × MonthsInRegister c first count
+    months_fit =
+        in_scope_days
+        (λ s given.
+        let n = years_elapsed c year in
+        let r = year_in_register system year s.year_inside in
+        let are = months_are s given in (
+          subst (HeadFits c) (sym (ap (λ v. v.head.0) given)) (head_fits c n r),
+          subst₂ (MonthsInRegister c) (sym are.0) (sym are.1) (months_in_register c n r),
+        ))
 
-      pub returns_days : {v : MoonsAnswer} → v ≡ extinguished_from c (rule_of system) first count → v ≡ extinguished_days_of system year
-      returns_days is =
-          in_scope_days
-          (λ s given.
-          let are = months_are s given in
-          is ∙ ap₂ (extinguished_from c (rule_of system)) are.0 are.1 ∙ days_answered system year has s)
+    pub returns_days : {v : MoonsAnswer} → HasRule system → v ≡ extinguished_from c (rule_of system) first count → v ≡ extinguished_days_of system year
+    returns_days has is =
+        in_scope_days
+        (λ s given.
+        let are = months_are s given in
+        is ∙ ap₂ (extinguished_from c (rule_of system)) are.0 are.1 ∙ days_answered system year has s)

@@ -130,24 +130,24 @@ module _ (system year i : ℕ) where
   pub no_rule : (HasRule system → ⊥) → no_answer SYSTEM ≡ submerged_of system year i
   no_rule none = sym (no_rule_blank system (qi_of system year i) (outside_of 1 last_rule system none))
 
-  module _ {qi : MomentAnswer} (asked : qi ≡ qi_of system year i) (has : HasRule system) where
-    pub returns_refusal : {v : DayAnswer} → (qi.refusal ≡ 0 → ⊥) → v ≡ no_answer qi.refusal → v ≡ submerged_of system year i
-    returns_refusal some is =
+  module _ {qi : MomentAnswer} (asked : qi ≡ qi_of system year i) where
+    pub returns_refusal : {v : DayAnswer} → HasRule system → (qi.refusal ≡ 0 → ⊥) → v ≡ no_answer qi.refusal → v ≡ submerged_of system year i
+    returns_refusal has some is =
         is ∙ sym (refused_as system has qi qi.refusal refl some) ∙ ap (submerged_in system) asked
 
-    pub returns_distance : {d : Option ℕ} → qi.refusal ≡ 0 → d ≡ submerged_after system qi.parts qi.units
+    pub returns_distance : {d : Option ℕ} → HasRule system → qi.refusal ≡ 0 → d ≡ submerged_after system qi.parts qi.units
         → answer_at qi.day d ≡ submerged_of system year i
-    returns_distance none is =
+    returns_distance has none is =
         ap (answer_at qi.day) is
         ∙ sym (answered_as system has qi none)
         ∙ ap (submerged_in system) asked
 
     -- A qi that was answered has parts and small units below their bounds.
     pub qi_below : qi.refusal ≡ 0
-        → HasRule system × (qi.parts < (constants_of system).solar) × (qi.units < (constants_of system).units)
+        → (qi.parts < (constants_of system).solar) × (qi.units < (constants_of system).units)
     qi_below none =
         let given = accepted_step 24 system year i (not_refused system year i (sym (ap (λ m. m.refusal) asked) ∙ none)) in
         let is = qi_holds system year given.0 i given.1 in
         let parts = ap (λ m. m.parts) asked in
         let units = ap (λ m. m.units) asked in
-        (has, omega (arith, is.parts_below), omega (arith, is.units_below))
+        (omega (arith, is.parts_below), omega (arith, is.units_below))

@@ -3,6 +3,8 @@
 use Rattle.std.specs.Prelude.{ℕ, ◌+◌, ◌*◌, ◌-◌, List, [], ◌∷◌, length, get_or}
 use Rattle.calendar.specs.Inside.{Inside}
 use Rattle.submerged_extinguished.specs.declared.rules.Rule.{Rule}
+use Rattle.submerged_extinguished.specs.declared.rules.Ruled.{Ruled}
+use Rattle.submerged_extinguished.specs.declared.rules.Ruled.TheVariants.{Guantian, Jiyuan}
 
 -- System 1, Guantian. The limit is 9,402 whole parts, each of 36 small units.
 abbrev pub guantian_rule : Rule
@@ -24,6 +26,11 @@ last_rule = length rules
 -- A system that has rules; refusal SYSTEM is for any other.
 abbrev pub HasRule : ℕ → Type 0
 HasRule system = Inside 1 last_rule system
+
+-- The number of a system that has rules.
+abbrev pub ruled_number : Ruled → ℕ
+ruled_number Guantian = 1
+ruled_number Jiyuan = 2
 
 -- The rule that a system's number picks. A request with any other number is refused; that it picks Guantian's has no
 -- effect.

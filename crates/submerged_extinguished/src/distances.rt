@@ -1,12 +1,11 @@
 // The distance of a submerged day by the remainder of its qi, and of an extinguished day by that of its new moon.
 ghost use Rattle.std.specs.Prelude.{◌≡◌, ◌<◌};
-ghost use Rattle.calendar.specs.Systems.{constants_of, system_number};
-ghost use Rattle.submerged_extinguished.specs.Rules.{HasRule};
+ghost use Rattle.calendar.specs.Systems.{constants_of};
+ghost use Rattle.submerged_extinguished.specs.Rules.{ruled_number};
 ghost use Rattle.submerged_extinguished.specs.Answers.{exact_remainder, submerged_by, submerged_after, extinguished_by};
 
 use crate::rules;
-use crate::rules::Numbers;
-use calendar::systems::System;
+use crate::rules::{Numbers, Ruled};
 
 impl Numbers {
     // After a qi with a remainder of so many parts and small units. All in small units, so that nothing is rounded before
@@ -42,15 +41,14 @@ impl Numbers {
     }
 }
 
-// The systems are named one by one, so that the compiler knows the divisors.
-pub(crate) fn submerged(system: System, parts: u32, units: u32) -> Option<u8>
-    requires { HasRule (system_number system)
-        × (parts < (constants_of (system_number system)).solar)
-        × (units < (constants_of (system_number system)).units) }
-    ensures { result ≡ submerged_after (system_number system) parts units }
+// The systems are named one by one, so that the compiler knows the divisors. `moons::of_months` has a `match` of its own
+// too: a function that handed the numbers to a closure would have a longer contract than both.
+pub(crate) fn submerged(ruled: Ruled, parts: u32, units: u32) -> Option<u8>
+    requires { (parts < (constants_of (ruled_number ruled)).solar) × (units < (constants_of (ruled_number ruled)).units) }
+    ensures { result ≡ submerged_after (ruled_number ruled) parts units }
 {
-    match system {
-        System::Jiyuan => rules::jiyuan().submerged(parts, units),
-        _ => rules::guantian().submerged(parts, units),
+    match ruled {
+        Ruled::Guantian => rules::guantian().submerged(parts, units),
+        Ruled::Jiyuan => rules::jiyuan().submerged(parts, units),
     }
 }

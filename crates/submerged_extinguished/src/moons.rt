@@ -1,19 +1,18 @@
 // The new moons of a year, each from the one before it, with no division.
 ghost use Rattle.std.specs.Prelude.{◌≡◌};
-ghost use Rattle.calendar.specs.Systems.{count_day, constants_of, system_number};
+ghost use Rattle.calendar.specs.Systems.{count_day, constants_of};
 ghost use Rattle.calendar.specs.ClosedForms.{month_of_day};
 ghost use Rattle.reckoning.specs.WordBounds.{MonthsInRegister};
 ghost use Rattle.submerged_extinguished.specs.Answers.{unused, extinguished_from};
 ghost use Rattle.submerged_extinguished.specs.Moons.{moon_at, moon_after, extinguished_on, months_in};
 ghost use Rattle.submerged_extinguished.specs.Told.{moons_answered};
-ghost use Rattle.submerged_extinguished.specs.Rules.{HasRule, rule_of};
+ghost use Rattle.submerged_extinguished.specs.Rules.{ruled_number, rule_of};
 ghost use Rattle.submerged_extinguished.specs.WordBounds.{HeadFits, MoonFits};
 
 use crate::data::{DayDistance, ExtinguishedDays};
 use crate::rules;
-use crate::rules::Numbers;
+use crate::rules::{Numbers, Ruled};
 use calendar::data::RegisterDay;
-use calendar::systems::System;
 
 // A new moon: its register day and its remainder.
 #[derive(Clone, Copy)]
@@ -104,15 +103,14 @@ pub(crate) fn months_in(length: u16) -> usize
     if length < 383 { 12 } else { 13 }
 }
 
-// Those of a system's months. The systems are named one by one, so that the compiler knows the divisors.
-pub(crate) fn of_months(system: System, head: RegisterDay, count: usize) -> ExtinguishedDays
-    requires { HasRule (system_number system)
-        × HeadFits (constants_of (system_number system)) head.0
-        × MonthsInRegister (constants_of (system_number system)) (month_of_day (constants_of (system_number system)) (count_day (constants_of (system_number system)) head.0)) count }
-    ensures { moons_answered result ≡ extinguished_from (constants_of (system_number system)) (rule_of (system_number system)) (month_of_day (constants_of (system_number system)) (count_day (constants_of (system_number system)) head.0)) count }
+// Those of a system's months. The systems are named one by one here too (see `distances::submerged`).
+pub(crate) fn of_months(ruled: Ruled, head: RegisterDay, count: usize) -> ExtinguishedDays
+    requires { HeadFits (constants_of (ruled_number ruled)) head.0
+        × MonthsInRegister (constants_of (ruled_number ruled)) (month_of_day (constants_of (ruled_number ruled)) (count_day (constants_of (ruled_number ruled)) head.0)) count }
+    ensures { moons_answered result ≡ extinguished_from (constants_of (ruled_number ruled)) (rule_of (ruled_number ruled)) (month_of_day (constants_of (ruled_number ruled)) (count_day (constants_of (ruled_number ruled)) head.0)) count }
 {
-    match system {
-        System::Jiyuan => rules::jiyuan().extinguished_days(head, count),
-        _ => rules::guantian().extinguished_days(head, count),
+    match ruled {
+        Ruled::Guantian => rules::guantian().extinguished_days(head, count),
+        Ruled::Jiyuan => rules::jiyuan().extinguished_days(head, count),
     }
 }

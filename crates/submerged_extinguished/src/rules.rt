@@ -1,8 +1,8 @@
 // The numbers of the rules for submerged and extinguished days, of the systems that have them.
 ghost use Rattle.std.specs.Prelude.{◌≡◌, MatchResult};
-ghost use Rattle.calendar.specs.Systems.{guantian, jiyuan, system_number};
+ghost use Rattle.calendar.specs.Systems.{guantian, jiyuan};
 ghost use Rattle.reckoning.specs.RefusalNumbers.{system_refused};
-ghost use Rattle.submerged_extinguished.specs.Rules.{guantian_rule, jiyuan_rule, HasRule};
+ghost use Rattle.submerged_extinguished.specs.Rules.{guantian_rule, jiyuan_rule, ruled_number, HasRule};
 ghost use Rattle.submerged_extinguished.specs.WordBounds.{RuleFits};
 
 use calendar::data::Constants;
@@ -31,20 +31,26 @@ pub(crate) struct Numbers {
     ghost fits: { RuleFits constants rule },
 }
 
+// A system that has a rule.
+#[derive(Clone, Copy)]
+pub(crate) enum Ruled {
+    Guantian,
+    Jiyuan,
+}
+
 // The system with a number, where it has a rule; refused System where it has none.
-pub(crate) fn with_rule(system: u32) -> Result<System, Refusal>
+pub(crate) fn with_rule(system: u32) -> Result<Ruled, Refusal>
     ensures { MatchResult result
-        (λ s. (system_number s ≡ system) × HasRule system)
+        (λ ruled. (ruled_number ruled ≡ system) × HasRule system)
         (λ refusal. (refusal ≡ system_refused) × (HasRule system → ⊥)) }
 {
     match System::try_from(system)? {
+        System::Guantian => Ok(Ruled::Guantian),
+        System::Jiyuan => Ok(Ruled::Jiyuan),
         System::Jingchu => Err(Refusal::System),
-        ruled => Ok(ruled),
     }
 }
 
-// Each of the two requests picks the system by a `match` of its own: a function that handed the numbers to a closure would
-// have a longer contract than both.
 pub(crate) fn guantian() -> Numbers
     ensures constants { result.constants ≡ guantian }
     ensures rule { result.rule ≡ guantian_rule }

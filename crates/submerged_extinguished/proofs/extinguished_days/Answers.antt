@@ -16,10 +16,9 @@ returns-in_err-days c =
 
 pub of_months-requires : goal.of_months-requires
 of_months-requires c =
-    let rule = c.in_ok-ruled.ensures in
-    rw rule.0 (months_fit _ _ c.in_ok-days.ensures rule.1 refl c.months_in-count.ensures)
+    rw c.in_ok-ruled.ensures.0 (months_fit _ _ c.in_ok-days.ensures refl c.months_in-count.ensures)
 
 pub returns : goal.returns
 returns c =
     let rule = c.in_ok-ruled.ensures in
-    returns_days _ _ c.in_ok-days.ensures rule.1 refl c.months_in-count.ensures (rw rule.0 at c.of_months.ensures)
+    returns_days _ _ c.in_ok-days.ensures refl c.months_in-count.ensures rule.1 (rw rule.0 at c.of_months.ensures)

@@ -17,7 +17,7 @@ returns-in_err-qi c =
 
 pub submerged-requires : goal.submerged-requires
 submerged-requires c =
-    rw c.in_ok-ruled.ensures.0 (qi_below _ _ _ c.in_ok-qi.ensures c.in_ok-ruled.ensures.1 refl)
+    rw c.in_ok-ruled.ensures.0 (qi_below _ _ _ c.in_ok-qi.ensures refl)
 
 pub returns : goal.returns
 returns c =
