@@ -33,7 +33,7 @@ fn unused() -> DayDistance
 
 impl Numbers {
     // The new moon of a month, by the month's head. A division of the day's last part by months leaves over what is left
-    // of the day after the new moon.
+    // of the day after the new moon. The count day is computed here, since `count_day` of reckoning is that crate's own.
     fn first_moon(self, head: RegisterDay) -> Moon
         requires { HeadFits self.constants head.0 }
         ensures { result ≡ moon_at self.constants (month_of_day self.constants (count_day self.constants head.0)) }
