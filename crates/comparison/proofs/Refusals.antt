@@ -6,27 +6,17 @@ use mathlib.Core.Bool.{Bool, true, false, cond}
 use native.Mathlib.Omega.{arith}
 use borrow.Author.Tests.{eq-eqb, ne_eqb, eqb-true}
 use lib.Dec.{eqb}
-use Rattle.std.proofs.Common.{Result, Ok, Err}
-use Rattle.std.specs.Result.{result_and}
 use Rattle.calendar.proofs.Cases.{by_bool}
 use Rattle.reckoning.specs.Answers.{YearAnswer}
-use Rattle.reckoning.specs.declared.data.Year.{Year}
-use Rattle.reckoning.specs.declared.refusal.Refusal.{Refusal}
-use Rattle.reckoning.specs.declared.refusal.Refusal.TheVariants as Variants
-use Rattle.reckoning.specs.declared.refusal.Refusal.TheVariants.{Short, Kind, Length, System, Month, Day, Output, Step, NotLeap, Retired, Time}
-use Rattle.reckoning.specs.RefusalNumbers.{SYSTEM, YEAR, number_of}
-use Rattle.reckoning.specs.ComputedRefusals.{Rule, ◌if◌, wrong_system, wrong_year, year_refusal}
+use Rattle.reckoning.specs.RefusalNumbers.{SYSTEM, YEAR}
+use Rattle.reckoning.specs.ComputedRefusals.{Rule, ◌if◌, no_such_system, wrong_system, wrong_year, year_refusal}
 use Rattle.reckoning.specs.Scope.{InScope}
 use Rattle.reckoning.specs.WordedRefusals.{FirstOf}
 use Rattle.reckoning.specs.Requests.{year_of}
 use Rattle.reckoning.proofs.RefusalCases.{accepted, in_scope, by_scope}
-use Rattle.reckoning.specs.Told.{told_year}
 use Rattle.reckoning.proofs.MonthsRight.{year_carries}
-use Rattle.reckoning.proofs.ToldCases.{number_not_0}
-use Rattle.comparison.specs.declared.data.Comparison.{Comparison}
 use Rattle.comparison.specs.Answers.{ComparisonAnswer}
 use Rattle.comparison.specs.Comparisons.{comparison_refusal, listing, no_comparison, comparison_of}
-use Rattle.comparison.specs.Told.{told_comparison}
 use Rattle.comparison.specs.WhereSystemsDiffer.{comparison_rows}
 
 -- Whether a rule applies.
@@ -106,65 +96,47 @@ module _ (first second year : ℕ) where
   pub second_in_scope : comparison_refusal first second year ≡ 0 → InScope second year
   second_in_scope none = accepted second year (sym (both_in_scope (first_in_scope none)) ∙ none)
 
--- One refusal alone has number SYSTEM.
-system_tells : (r : Refusal) → (r ≡ System → ⊥) → number_of r ≡ SYSTEM → ⊥
-system_tells Short other e = omega (arith, e)
-system_tells Kind other e = omega (arith, e)
-system_tells Length other e = omega (arith, e)
-system_tells System other e = other refl
-system_tells Variants.Year other e = omega (arith, e)
-system_tells Month other e = omega (arith, e)
-system_tells Day other e = omega (arith, e)
-system_tells Output other e = omega (arith, e)
-system_tells Step other e = omega (arith, e)
-system_tells (NotLeap month) other e = omega (arith, e)
-system_tells Retired other e = omega (arith, e)
-system_tells Time other e = omega (arith, e)
-
--- The answer, from the years as they are asked.
-module _ {a : YearAnswer} (first second year : ℕ) (a_is : a ≡ year_of first year) where
+-- The answer, with each system judged first, and then the years as they are asked.
+module _ (first second year : ℕ) where
   refused_as : {v : ComparisonAnswer} {number : ℕ} → comparison_refusal first second year ≡ number → (number ≡ 0 → ⊥) → v ≡ no_comparison number
       → v ≡ comparison_of first second year
   unfolding comparison_of
   refused_as {number = number} e some is =
       is ∙ ap no_comparison (sym e) ∙ simp (ne_eqb (comparison_refusal first second year) 0 (λ z. some (sym e ∙ z)))
 
-  a_refusal : a.refusal ≡ year_refusal first year
-  a_refusal = ap (λ m. m.refusal) a_is ∙ year_carries first year
+  pub wrong_first : {v : ComparisonAnswer} → no_such_system first ≡ true → v ≡ no_comparison SYSTEM → v ≡ comparison_of first second year
+  unfolding comparison_refusal
+  wrong_first wrong is = refused_as (simp wrong) (λ z. omega arith) is
 
-  pub wrong_first : {v : ComparisonAnswer} → a.refusal ≡ SYSTEM → v ≡ no_comparison SYSTEM → v ≡ comparison_of first second year
-  wrong_first wrong is = refused_as (first_wrong first second year (sym a_refusal ∙ wrong)) (λ z. omega arith) is
+  module _ (one : no_such_system first ≡ false) where
+    pub wrong_second : {v : ComparisonAnswer} → no_such_system second ≡ true → v ≡ no_comparison SYSTEM → v ≡ comparison_of first second year
+    unfolding comparison_refusal
+    wrong_second wrong is = refused_as (simp (one, wrong)) (λ z. omega arith) is
 
-  module _ {b : YearAnswer} (right : a.refusal ≡ SYSTEM → ⊥) (b_is : b ≡ year_of second year) where
-    b_refusal : b.refusal ≡ year_refusal second year
-    b_refusal = ap (λ m. m.refusal) b_is ∙ year_carries second year
+    module _ (other : no_such_system second ≡ false) where
+      by_year_of_first : comparison_refusal first second year ≡ year_refusal first year
+      unfolding comparison_refusal year_refusal
+      by_year_of_first = simp (one, other)
 
-    judged : comparison_refusal first second year ≡ b.refusal
-    judged = first_right first second year (λ e. right (a_refusal ∙ e)) ∙ sym b_refusal
+      by_year_of_second : comparison_refusal first second year ≡ year_refusal second year
+      unfolding comparison_refusal year_refusal
+      by_year_of_second = simp (one, other)
 
-    -- A year that the second system has is in scope, and the first system has it too.
-    pub right_for_both : b.refusal ≡ 0 → a.refusal ≡ 0
-    right_for_both none =
-        by_scope first year
-        (λ no_system e. absurd (right (a_refusal ∙ e)))
-        (λ inside out e. absurd (out (accepted second year (sym b_refusal ∙ none)).year_inside))
-        (λ s. a_refusal ∙ in_scope first year s)
+      module _ {a : YearAnswer} (a_is : a ≡ year_of first year) where
+        a_refusal : comparison_refusal first second year ≡ a.refusal
+        a_refusal = by_year_of_first ∙ sym (ap (λ m. m.refusal) a_is ∙ year_carries first year)
 
-    pub wrong_second : {v : ComparisonAnswer} → (b.refusal ≡ 0 → ⊥) → v ≡ no_comparison b.refusal → v ≡ comparison_of first second year
-    wrong_second some is = refused_as judged some is
+        pub wrong_year_of_first : {v : ComparisonAnswer} → (a.refusal ≡ 0 → ⊥) → v ≡ no_comparison a.refusal → v ≡ comparison_of first second year
+        wrong_year_of_first some is = refused_as a_refusal some is
 
-    pub both_right : {v : ComparisonAnswer} → b.refusal ≡ 0 → v ≡ listing a b → v ≡ comparison_of first second year
-    unfolding comparison_of
-    both_right none is =
-        is ∙ ap₂ listing a_is b_is ∙ simp (eq-eqb (comparison_refusal first second year) 0 (judged ∙ none))
+        module _ {b : YearAnswer} (b_is : b ≡ year_of second year) where
+          b_refusal : comparison_refusal first second year ≡ b.refusal
+          b_refusal = by_year_of_second ∙ sym (ap (λ m. m.refusal) b_is ∙ year_carries second year)
 
--- Where the first system's year is refused, but not the system, the refusal of the second's counts.
-pub wrong_both : (first second year : ℕ) (e : Refusal) (of_second : Result Year Refusal) {r : Result Comparison Refusal}
-    → told_year (Err e) ≡ year_of first year → (e ≡ System → ⊥)
-    → told_year of_second ≡ year_of second year
-    → r ≡ result_and of_second (Err e)
-    → told_comparison r ≡ comparison_of first second year
-wrong_both first second year e (Ok months) a_is other b_is is =
-    absurd (number_not_0 e (right_for_both first second year a_is (system_tells e other) b_is refl))
-wrong_both first second year e (Err f) a_is other b_is is =
-    ap told_comparison is ∙ wrong_second first second year a_is (system_tells e other) b_is (number_not_0 f) refl
+          pub wrong_year_of_second : {v : ComparisonAnswer} → (b.refusal ≡ 0 → ⊥) → v ≡ no_comparison b.refusal → v ≡ comparison_of first second year
+          wrong_year_of_second some is = refused_as b_refusal some is
+
+          pub both_right : {v : ComparisonAnswer} → b.refusal ≡ 0 → v ≡ listing a b → v ≡ comparison_of first second year
+          unfolding comparison_of
+          both_right none is =
+              is ∙ ap₂ listing a_is b_is ∙ simp (eq-eqb (comparison_refusal first second year) 0 (b_refusal ∙ none))
