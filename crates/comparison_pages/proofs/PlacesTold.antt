@@ -1,13 +1,14 @@
 -- A comparison that was answered has places that can be told.
 use Prim.Native.Nat.{ℕ, suc, ◌+◌, ◌-◌, ◌≤◌, ◌<◌}
-use mathlib.Core.Path.{◌≡◌, subst, sym, ap, ◌∙◌}
+use mathlib.Core.Path.{◌≡◌, refl, subst, sym, ap, ◌∙◌}
 use native.Mathlib.Omega.{arith}
 use lib.Dec.{ltb}
 use lib.IntN.{ℤ, pos, negsuc, nat_abs, ◌+ℤ◌, pos-ne-negsuc}
 use lib.ListN.{take, get_or}
 use Rattle.std.proofs.lemmas.List.{get_or-take}
 use borrow.Author.Tests.{ltb-false}
-use Rattle.std.proofs.Common.{Result, Err}
+use Rattle.std.proofs.Common.{Result, Ok, Err}
+use Rattle.std.specs.Prelude.{IsOk}
 use Rattle.calendar.proofs.Cases.{by_bool}
 use Rattle.reckoning.specs.declared.data.Year.{Year}
 use Rattle.reckoning.specs.declared.refusal.Refusal.{Refusal}
@@ -40,11 +41,11 @@ size_most x y (negsuc n) e =
     (λ l. absurd (pos-ne-negsuc y (suc n - suc x) (e ∙ simp l)))
     (λ l. omega (arith, ltb-false x (suc n) l))
 
--- A year in scope is not refused.
-not_refused : (system n : ℕ) → InScope system n → {r : Result Year Refusal} {e : Refusal} → told_year r ≡ year_of system n → r ≡ Err e → ⊥
-not_refused system n s {e = e} told is_error =
-    number_not_0 e
-    (ap (λ v. v.refusal) (sym (ap told_year is_error) ∙ told) ∙ year_carries system n ∙ in_scope system n s)
+-- A year in scope is answered.
+year_there : (system n : ℕ) → InScope system n → (r : Result Year Refusal) → told_year r ≡ year_of system n → IsOk r
+year_there system n s (Ok y) told = refl
+year_there system n s (Err e) told =
+    absurd (number_not_0 e (ap (λ v. v.refusal) told ∙ year_carries system n ∙ in_scope system n s))
 
 module _ (first second n : ℕ) (s : InScope first n) (t : InScope second n) where
   small : (place : ℕ) (d : Difference) → Says first second n place d → SmallDays d
@@ -81,11 +82,11 @@ module _ {compared : ComparisonAnswer} (first second n : ℕ) (is : compared ≡
       (answered first second n (first_in_scope first second n accepted) (second_in_scope first second n accepted))
 
   -- It has the years of both systems.
-  pub first_there : {r : Result Year Refusal} {e : Refusal} → told_year r ≡ year_of first n → r ≡ Err e → ⊥
-  first_there told is_error = not_refused first n (first_in_scope first second n accepted) told is_error
+  pub first_there : (r : Result Year Refusal) → told_year r ≡ year_of first n → IsOk r
+  first_there r told = year_there first n (first_in_scope first second n accepted) r told
 
-  pub second_there : {r : Result Year Refusal} {e : Refusal} → told_year r ≡ year_of second n → r ≡ Err e → ⊥
-  second_there told is_error = not_refused second n (second_in_scope first second n accepted) told is_error
+  pub second_there : (r : Result Year Refusal) → told_year r ≡ year_of second n → IsOk r
+  second_there r told = year_there second n (second_in_scope first second n accepted) r told
 
 pub place_printable : {compared : ComparisonAnswer} {i : ℕ} → Printable compared → i < compared.count
     → PlacePrintable (get_or (take compared.count compared.places) i unused)

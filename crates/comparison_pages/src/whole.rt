@@ -64,9 +64,8 @@ pub(crate) fn put(out: &mut [u8], at: usize, first: u32, second: u32, year: u32)
     if count == 0 {
         return at;
     }
-    match (reckoning::year(first, year), reckoning::year(second, year)) {
-        (Ok(of_first), Ok(of_second)) => place_lines(out, at, of_first, of_second, compared),
-        // Not reached: a comparison that was answered has both years.
-        _ => at,
-    }
+    // A comparison that was answered has both years.
+    let of_first = reckoning::year(first, year).unwrap();
+    let of_second = reckoning::year(second, year).unwrap();
+    place_lines(out, at, of_first, of_second, compared)
 }

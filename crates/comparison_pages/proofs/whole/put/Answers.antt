@@ -1,7 +1,9 @@
-use mathlib.Core.Path.{refl}
+use mathlib.Core.Path.{◌≡◌, refl, subst}
 use native.Mathlib.Omega.{arith}
 use borrow.Author.Rules.{rules}
 use Rattle.reckoning.proofs.ToldCases.{number_not_0}
+use Rattle.reckoning.specs.Told.{told_year}
+use Rattle.reckoning.specs.Requests.{year_of}
 use Rattle.text.proofs.Putting.{all_put, put_last}
 use Rattle.comparison_pages.proofs.PageText.{put_refused, wrote_page, wrote_page_alone}
 use Rattle.comparison_pages.proofs.PlacesTold.{printable, first_there, second_there}
@@ -20,15 +22,16 @@ returns-then-count-eq0 c =
 pub place_lines-requires : goal.place_lines-requires
 place_lines-requires c = (search rules, printable _ _ _ c.in-Ok.ensures.0 refl)
 
-pub returns-in-Ok-Ok : goal.returns-in-Ok-Ok
-returns-in-Ok-Ok c =
-    let years = c.in-Ok-Ok in
+pub unwrap-of_first-requires : goal.unwrap-of_first-requires
+unwrap-of_first-requires c = first_there _ _ _ c.in-Ok.ensures.0 refl c.year.result c.year.ensures
+
+pub unwrap-of_second-requires : goal.unwrap-of_second-requires
+unwrap-of_second-requires c = second_there _ _ _ c.in-Ok.ensures.0 refl c.year-2.result c.year-2.ensures
+
+pub returns : goal.returns
+returns c =
     let line = c.compare_line-at.ensures in
     let lines = c.place_lines.ensures in
-    (wrote_page _ _ _ c.in-Ok.ensures.0 refl years.ensures years.ensures' line.0 lines.0, omega arith)
-
-pub returns-in_default : goal.returns-in_default
-returns-in_default c = absurd (second_there _ _ _ c.in-Ok.ensures.0 refl c.year-2.ensures c.in_default.is-1)
-
-pub returns-in_default-2 : goal.returns-in_default-2
-returns-in_default-2 c = absurd (first_there _ _ _ c.in-Ok.ensures.0 refl c.year.ensures c.in_default.is-0)
+    let of_first = subst (λ r. told_year r ≡ year_of c.args.first c.args.year) c.unwrap-of_first.ensures c.year.ensures in
+    let of_second = subst (λ r. told_year r ≡ year_of c.args.second c.args.year) c.unwrap-of_second.ensures c.year-2.ensures in
+    (wrote_page _ _ _ c.in-Ok.ensures.0 refl of_first of_second line.0 lines.0, omega arith)
