@@ -6,13 +6,10 @@ use Rattle.reckoning.specs.Told.{told}
 use Rattle.submerged_extinguished.specs.declared.data.DayDistance.{DayDistance}
 use Rattle.submerged_extinguished.specs.declared.data.ExtinguishedDays.{ExtinguishedDays}
 use Rattle.submerged_extinguished.specs.Records.{DayAnswer, MoonsAnswer}
-use Rattle.submerged_extinguished.specs.Answers.{no_answer, no_days}
-
-abbrev pub day_answered : DayDistance → DayAnswer
-day_answered a = record { refusal = 0; day = a.day; distance = a.distance }
+use Rattle.submerged_extinguished.specs.Answers.{no_answer, answer_on, no_days}
 
 abbrev pub told_day : Result DayDistance Refusal → DayAnswer
-told_day r = told day_answered (λ e. no_answer (number_of e)) r
+told_day r = told answer_on (λ e. no_answer (number_of e)) r
 
 abbrev pub moons_answered : ExtinguishedDays → MoonsAnswer
 moons_answered d = record { refusal = 0; count = d.count; moons = d.moons }

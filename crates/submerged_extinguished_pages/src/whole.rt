@@ -1,8 +1,8 @@
 // The pages of a year's submerged and extinguished days: a first line, and one for each qi or new moon.
 ghost use Rattle.std.specs.Prelude.{◌≡◌, ◌+◌, ◌≤◌, length};
 ghost use Rattle.text.specs.Wrote.{Wrote};
-ghost use Rattle.submerged_extinguished.specs.Answers.{submerged_of};
-ghost use Rattle.submerged_extinguished.specs.Told.{day_answered, moons_answered};
+ghost use Rattle.submerged_extinguished.specs.Answers.{submerged_of, answer_on};
+ghost use Rattle.submerged_extinguished.specs.Told.{moons_answered};
 ghost use Rattle.submerged_extinguished_pages.specs.DistancePages.{qi_told, qi_lines, submerged_page, moon_line, moon_lines, extinguished_page};
 
 use crate::line;
@@ -10,9 +10,9 @@ use submerged_extinguished::data::{DayDistance, ExtinguishedDays};
 
 fn qi_line(out: &mut [u8], at: usize, i: u32, answer: DayDistance) -> usize
     requires { at + 36 ≤ length out.old }
-    ensures { Wrote out.old at (qi_told i (day_answered answer)) out.new result × (result ≤ at + 36) }
+    ensures { Wrote out.old at (qi_told i (answer_on answer)) out.new result × (result ≤ at + 36) }
 {
-    line::put(out, at, b"qi", i, answer.day, answer.distance)
+    line::put(out, at, b"qi", i, answer)
 }
 
 // Where qi 0 is answered, so is each.
@@ -47,7 +47,7 @@ fn moon_line(out: &mut [u8], at: usize, place: u32, moon: DayDistance) -> usize
     requires { at + 38 ≤ length out.old }
     ensures { Wrote out.old at (moon_line place moon) out.new result × (result ≤ at + 38) }
 {
-    line::put(out, at, b"moon", place, moon.day, moon.distance)
+    line::put(out, at, b"moon", place, moon)
 }
 
 fn moon_lines(out: &mut [u8], start: usize, days: ExtinguishedDays) -> usize

@@ -1,7 +1,7 @@
 use mathlib.Core.Path.{◌≡◌, subst}
 use native.Mathlib.Omega.{arith}
-use Rattle.submerged_extinguished.specs.Told.{told_day, day_answered}
-use Rattle.submerged_extinguished.specs.Answers.{submerged_of}
+use Rattle.submerged_extinguished.specs.Told.{told_day}
+use Rattle.submerged_extinguished.specs.Answers.{submerged_of, answer_on}
 use Rattle.text.proofs.Writing.{wrote_no_texts, wrote_one_more, wrote_all_texts}
 use Rattle.submerged_extinguished_pages.specs.DistancePages.{qi_line, qi_lines}
 use Rattle.submerged_extinguished_pages.proofs.PageText.{each_answered, wrote_asked}
@@ -15,7 +15,7 @@ unwrap-answer-requires c = each_answered c.submerged.result c.requires.1 c.loop-
 
 pub loop-i-preserved : goal.loop-i-preserved
 loop-i-preserved c =
-    let got : day_answered c.unwrap-answer.result ≡ submerged_of c.args.system c.args.year c.loop-i.i =
+    let got : answer_on c.unwrap-answer.result ≡ submerged_of c.args.system c.args.year c.loop-i.i =
     subst (λ r. told_day r ≡ submerged_of c.args.system c.args.year c.loop-i.i) c.unwrap-answer.ensures c.submerged.ensures.0
     in
     let line = wrote_asked c.args.system c.args.year c.loop-i.i got c.qi_line-at.ensures.0 in
