@@ -5,7 +5,7 @@ ghost use Rattle.arguments.specs.Ranges.{digit_at, count_of, range_of};
 
 use crate::number;
 
-const LONGEST: u64 = 1000000000000000000;
+const LONGEST: u64 = 1_000_000_000_000_000_000;
 
 // The first number of a range, as a number is told, and how many there are.
 #[derive(Clone, Copy, Debug, PartialEq, Eq)]
