@@ -5,10 +5,9 @@
 
 ghost use Rattle.process.specs.Exit.{Ended};
 
-use arguments::options::Wish;
 use arguments::ranges::Range;
-use arguments::{number, options, ranges};
-use process::command_line::{Program, reply_to, word, word_count};
+use arguments::{number, ranges};
+use process::command_line::{Program, reply, word, word_count};
 use process::exit;
 use process::exit::Status;
 use process::streams::{Streams, zeros};
@@ -113,17 +112,12 @@ fn asked<R: Env>(rt: &R, count: usize) -> Option<(Request, Range)> {
     Some((request, range))
 }
 
-// What a lone argument asks for.
-fn wish<R: Env>(rt: &R) -> Wish {
-    let mut text = zeros::<4096>();
-    options::read(word(rt, 1, &mut text))
-}
-
 // Does what the arguments ask, and gives the exit status.
 pub fn almanac_run<R: Env>(rt: &R, streams: &mut Streams, version: &[u8]) -> Status
     ensures { Ended result }
 {
     let count = word_count(rt);
+    // A lone argument is an option, or a misuse.
     if count == 2 {
         let program = Program {
             name: NAME,
@@ -131,7 +125,9 @@ pub fn almanac_run<R: Env>(rt: &R, streams: &mut Streams, version: &[u8]) -> Sta
             help: HELP,
             usage: USAGE,
         };
-        return reply_to(streams, wish(rt), &program);
+        if let Some(status) = reply(rt, streams, &program) {
+            return status;
+        }
     }
     let Some((request, range)) = asked(rt, count) else {
         return exit::misuse(streams, USAGE);

@@ -45,7 +45,7 @@ fn wish<R: Env>(rt: &R) -> Wish {
 }
 
 // Replies to a wish with the program's help, or its name and version, and to any other with its usage.
-pub fn reply_to(streams: &mut Streams, wish: Wish, program: &Program) -> Status
+fn reply_to(streams: &mut Streams, wish: Wish, program: &Program) -> Status
     ensures { RepliedTo wish result }
 {
     match wish {
