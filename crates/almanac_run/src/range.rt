@@ -95,6 +95,7 @@ fn write_pages(
 {
     let mut next = range.first;
     let mut left = range.count;
+    // No `for`: it goes on by what a buffer took.
     while 0 < left {
         let filled = fill(out, request, next, left);
         streams::write(streams, &out[..filled.end])?;

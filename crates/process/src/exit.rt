@@ -28,7 +28,8 @@ impl Status {
     }
 }
 
-// What a program ends with that has this status, of which the system takes the lowest byte.
+// What a program ends with that has this status, of which the system takes the lowest byte. It takes any number: a
+// `Status` would ask more of callers, and `exit_status` is promised of all.
 pub fn code(status: u32) -> ExitCode
     ensures { exit_status result ≡ status % 256 }
 {

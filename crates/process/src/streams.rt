@@ -20,7 +20,8 @@ pub enum Failure {
     Output(Error),
 }
 
-// Room for what is read or written.
+// Room for what is read or written. A function, since an array of many thousand places, written out in a run, is too long
+// for the prover.
 pub fn zeros<const N: usize>() -> [u8; N]
     ensures size { length result ≡ N }
     ensures each { (i : ℕ) → i < N → slice_index result i ≡ 0 }
