@@ -24,7 +24,7 @@ pub(crate) fn tell_refused(streams: &mut Streams, renewed: &[u8], offset: u64) {
     while let Some(n) = next(renewed, at) {
         let end = at + n;
         if let Some(refusal) = conversion::left_with(&renewed[at..end]) {
-            let place = std::num::wrapping_add_u64(offset, at as u64);
+            let place = offset.wrapping_add(at as u64);
             tell(streams, refusal, place);
         }
         at = end;
