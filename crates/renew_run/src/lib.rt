@@ -128,7 +128,8 @@ fn after_step(status: Status, refused: bool) -> Status
     status
 }
 
-// Step after step.
+// Step after step. The runs differ in what a step gives and in what follows the stop; a common one would take both as
+// closures.
 fn renew_input(streams: &mut Streams, buffer: &mut [u8]) -> Result<Status, Failure>
     requires { 64 ≤ length buffer.old }
     ensures { IfOk result (λ status. AnsweredOrFailed status) }
