@@ -2,7 +2,7 @@
 // `turn`; here bytes are moved between that and the system.
 #![tactic(auto)]
 
-ghost use Rattle.std.specs.Prelude.{◌≡◌, ◌<◌, ◌≤◌, length, take, if◌then◌else◌, nat_eq, IfOk};
+ghost use Rattle.std.specs.Prelude.{◌≡◌, ◌+◌, ◌*◌, ◌<◌, ◌≤◌, length, take, if◌then◌else◌, nat_eq, IfOk};
 ghost use Rattle.process.specs.Exit.{AnsweredOrFailed, Ended};
 ghost use Rattle.chiselbrow_run.specs.Buffers.{Buffers};
 ghost use Rattle.chiselbrow_run.specs.Stepped.{Stepped, ReadAndAnswered};
@@ -26,18 +26,17 @@ struct Step {
     read: usize,
 }
 
-// Answers the records among the first `filled` bytes, and writes their lines.
+// Answers the records among these bytes, and writes their lines.
 fn write_answer(
     streams: &mut Streams,
-    input: &mut [u8],
-    filled: usize,
+    bytes: &mut [u8],
     ended: bool,
     out: &mut [u8],
 ) -> Result<Step, Failure>
-    requires { (filled ≤ length input.old) × Buffers input.old out.old }
-    ensures { Stepped ended (take filled input.old) input.new result }
+    requires { 16 * length bytes.old + 64 ≤ length out.old }
+    ensures { Stepped ended bytes.old bytes.new result }
 {
-    let t = answer(&mut input[..filled], ended, out);
+    let t = answer(bytes, ended, out);
     streams::write(streams, &out[..t.written])?;
     Ok(Step {
         more: t.more,
@@ -57,7 +56,8 @@ fn read_and_answer(
     ensures { ReadAndAnswered (take kept input.old) input.new result }
 {
     let count = streams::read(streams, &mut input[kept..])?;
-    write_answer(streams, input, kept + count, count == 0, out)
+    let filled = kept + count;
+    write_answer(streams, &mut input[..filled], count == 0, out)
 }
 
 fn stopped(streams: &mut Streams, left: usize, offset: u64) -> Status
@@ -71,7 +71,8 @@ fn stopped(streams: &mut Streams, left: usize, offset: u64) -> Status
     )
 }
 
-// Step after step. A proved loop has to end, so it counts its turns.
+// Step after step. A proved loop has to end, so it counts its turns. The runs differ in what a step gives and in what
+// follows the stop; a common one would take both as closures.
 fn answer_input(streams: &mut Streams, input: &mut [u8], out: &mut [u8]) -> Result<Status, Failure>
     requires { Buffers input.old out.old }
     ensures { IfOk result (λ status. AnsweredOrFailed status) }

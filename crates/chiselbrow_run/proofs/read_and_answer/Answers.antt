@@ -5,5 +5,5 @@ use Rattle.chiselbrow_run.proofs.read_and_answer.Goals as goal
 
 pub returns : goal.returns
 returns c =
-    read_step _ _ c.args.kept c.in_ok-count.count c.args.input.now c.read.new.buffer _ c.requires.0 c.requires.1.0 (search rules)
+    read_step _ _ c.args.kept c.in_ok-count.count c.args.input.now c.read.new.buffer _ _ c.requires.0 c.requires.1.0 (search rules)
     c.write_answer.ensures

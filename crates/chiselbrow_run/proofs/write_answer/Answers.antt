@@ -3,4 +3,4 @@ use Rattle.chiselbrow_run.proofs.Stepping.{written_step}
 use Rattle.chiselbrow_run.proofs.write_answer.Goals as goal
 
 pub returns : goal.returns
-returns c = written_step _ c.answer-t.ensures
+returns c = written_step c.answer-t.ensures
