@@ -5,6 +5,8 @@ use Rattle.reckoning.specs.declared.data.Month.{Month}
 use Rattle.reckoning.specs.ComputedRefusals.{outside}
 use Rattle.reckoning.specs.Requests.{month_of}
 use Rattle.reckoning.specs.Told.{month_answered}
+use Rattle.citation.specs.declared.judge.Kind.{Kind}
+use Rattle.citation.specs.declared.judge.Kind.TheVariants.{Date, Ordinal, RegisterDay, Name}
 use Rattle.citation.specs.Record.{kind_of}
 use Rattle.citation.specs.Store.{length_right}
 
@@ -26,3 +28,10 @@ pub record Whole (s : List ℕ) (kind : ℕ) : Type 0 where
 -- The month that a citation names, found.
 abbrev pub Found : Month → ℕ → ℕ → ℕ → ℕ → Type 0
 Found m system year month leap = month_answered m ≡ month_of system year month leap
+
+-- The number of a kind.
+abbrev pub kind_number : Kind → ℕ
+kind_number Date = 1
+kind_number Ordinal = 3
+kind_number RegisterDay = 4
+kind_number Name = 5

@@ -1,11 +1,11 @@
 // The judgement of a citation: its refusal, or the day that it names and its stored record.
-ghost use Rattle.std.specs.Prelude.{◌≡◌, false, Err, ◌<◌, ◌^◌, length};
+ghost use Rattle.std.specs.Prelude.{◌≡◌, true, false, MatchOption, Err, ◌<◌, ◌^◌, length};
 ghost use Rattle.citation.specs.Store.{accept, judge_register_day, judge_ordinal, judge_day, days_to_name, judge_name};
 ghost use Rattle.citation.specs.Store.{judge_kind, judge_of};
-ghost use Rattle.citation.specs.JudgeParts.{Whole, Found, is_whole};
+ghost use Rattle.citation.specs.JudgeParts.{Whole, Found, is_whole, kind_number};
+ghost use Rattle.citation.specs.Record.{kind_of};
 ghost use Rattle.citation.specs.Told.{judgement_answered, told_judgement};
 
-use crate::kinds::{DATE, NAME, ORDINAL, REGISTER_DAY, RETIRED};
 use crate::output::Record;
 use calendar::data::{DayName, Ordinal, RegisterDay};
 use little_endian::{le16, le32};
@@ -50,7 +50,7 @@ fn accept(day: RegisterDay, cited: MonthCited, place: u8) -> Judgement
     }
 }
 
-// Of kind ORDINAL.
+// Kind 3.
 fn judge_ordinal(system: u8, year: u16, ordinal: Ordinal) -> Result<Judgement, Refusal>
     ensures { told_judgement result ≡ judge_ordinal system year ordinal.0 }
 {
@@ -64,7 +64,7 @@ fn judge_ordinal(system: u8, year: u16, ordinal: Ordinal) -> Result<Judgement, R
     Ok(accept(d.day, cited, d.place))
 }
 
-// Of kind REGISTER_DAY.
+// Kind 4.
 fn judge_register_day(system: u8, day: RegisterDay) -> Result<Judgement, Refusal>
     ensures { told_judgement result ≡ judge_register_day system day.0 }
 {
@@ -78,7 +78,7 @@ fn judge_register_day(system: u8, day: RegisterDay) -> Result<Judgement, Refusal
     Ok(accept(day, cited, d.day))
 }
 
-// Of kind DATE, in its month.
+// Kind 1, in its month.
 fn judge_day(m: Month, cited: MonthCited, day: u8) -> Result<Judgement, Refusal>
     requires { Found m cited.system cited.year cited.number cited.leap }
     ensures { told_judgement result ≡ judge_day cited.system cited.year cited.number cited.leap day }
@@ -101,7 +101,7 @@ fn days_to_name(head: RegisterDay, name: DayName) -> u32
     (name.0 as u32 + 10 + SIXTIES - head.0) % 60
 }
 
-// Of kind NAME, in its month.
+// Kind 5, in its month.
 fn judge_name(m: Month, cited: MonthCited, name: DayName) -> Result<Judgement, Refusal>
     requires { Found m cited.system cited.year cited.number cited.leap }
     ensures { told_judgement result ≡ judge_name cited.system cited.year cited.number cited.leap name.0 }
@@ -116,60 +116,76 @@ fn judge_name(m: Month, cited: MonthCited, name: DayName) -> Result<Judgement, R
     Ok(accept(RegisterDay(m.head.0 + days), cited, days as u8 + 1))
 }
 
-// A record whose kind and length are right. Each request to the reckoning stands at one place: the compiler copies those
-// of their size only into the one place that calls them.
-fn judge_kind(s: &[u8], kind: u32) -> Result<Judgement, Refusal>
-    requires { Whole s.now kind }
+// What a record names its day by: the kinds that are not retired.
+#[derive(Clone, Copy, Debug, PartialEq, Eq)]
+enum Kind {
+    Date,
+    Ordinal,
+    RegisterDay,
+    Name,
+}
+
+// A whole record of a kind. Each request to the reckoning stands at one place: the compiler copies those of their size
+// only into the one place that calls them.
+fn judge_kind(s: &[u8], kind: Kind) -> Result<Judgement, Refusal>
+    requires { Whole s.now (kind_number kind) }
     ensures { told_judgement result ≡ judge_kind s.now }
 {
     let system = s[4];
-    if s.len() == 10 {
-        let year = le16(s[5], s[6]);
-        let number = s[7];
-        let leap = s[8];
-        let m = reckoning::month(system as u32, year, number as u32, leap as u32)?;
-        let cited = MonthCited {
-            system,
-            year: year as u16,
-            number,
-            leap,
-        };
-        if kind == DATE {
-            return judge_day(m, cited, s[9]);
-        }
-        return judge_name(m, cited, DayName(s[9]));
+    match kind {
+        Kind::Date | Kind::Name => {
+            let year = le16(s[5], s[6]);
+            let number = s[7];
+            let leap = s[8];
+            let m = reckoning::month(system as u32, year, number as u32, leap as u32)?;
+            let cited = MonthCited {
+                system,
+                year: year as u16,
+                number,
+                leap,
+            };
+            if matches!(kind, Kind::Date) {
+                return judge_day(m, cited, s[9]);
+            }
+            judge_name(m, cited, DayName(s[9]))
+        },
+        Kind::Ordinal => {
+            let year = le16(s[5], s[6]) as u16;
+            let ordinal = le16(s[7], s[8]) as u16;
+            judge_ordinal(system, year, Ordinal(ordinal))
+        },
+        Kind::RegisterDay => judge_register_day(system, RegisterDay(le32(s[5], s[6], s[7], s[8]))),
     }
-    if kind == ORDINAL {
-        let year = le16(s[5], s[6]) as u16;
-        let ordinal = le16(s[7], s[8]) as u16;
-        return judge_ordinal(system, year, Ordinal(ordinal));
-    }
-    judge_register_day(system, RegisterDay(le32(s[5], s[6], s[7], s[8])))
 }
 
-// A whole record: the length field and the length of the input are those of its kind. By month and by name a record has
-// ten bytes, and by ordinal and by register day nine.
-fn is_whole(s: &[u8]) -> bool
-    ensures { result ≡ is_whole s.now }
+// The kind of a whole record: the length field and the length of the input are those of its kind. Kinds 1 and 5 have ten
+// bytes, and 3 and 4 nine.
+fn whole(s: &[u8]) -> Option<Kind>
+    ensures { MatchOption result (is_whole s.now ≡ false) (λ k. (is_whole s.now ≡ true) × (kind_number k ≡ kind_of s.now)) }
 {
     let length = s.len();
     if length < 9 {
-        return false;
+        return None;
     }
     if 10 < length {
-        return false;
+        return None;
     }
     if le16(s[0], s[1]) as usize != length {
-        return false;
+        return None;
     }
     let kind = le16(s[2], s[3]);
     if length == 9 {
-        return !outside(ORDINAL, REGISTER_DAY, kind);
+        return match kind {
+            3 => Some(Kind::Ordinal),
+            4 => Some(Kind::RegisterDay),
+            _ => None,
+        };
     }
-    if kind == DATE {
-        return true;
+    match kind {
+        1 => Some(Kind::Date),
+        5 => Some(Kind::Name),
+        _ => None,
     }
-    kind == NAME
 }
 
 // The refusal of what is no whole record: the first in the order of the table.
@@ -181,10 +197,10 @@ fn frame_refusal(s: &[u8]) -> Refusal
         return Refusal::Short;
     }
     let kind = le16(s[2], s[3]);
-    if outside(DATE, NAME, kind) {
+    if outside(1, 5, kind) {
         return Refusal::Kind;
     }
-    if kind == RETIRED {
+    if kind == 2 {
         return Refusal::Retired;
     }
     Refusal::Length
@@ -194,8 +210,8 @@ fn frame_refusal(s: &[u8]) -> Refusal
 pub fn judge(s: &[u8]) -> Result<Judgement, Refusal>
     ensures { told_judgement result ≡ judge_of s.now }
 {
-    if is_whole(s) {
-        return judge_kind(s, le16(s[2], s[3]));
+    match whole(s) {
+        Some(kind) => judge_kind(s, kind),
+        None => Err(frame_refusal(s)),
     }
-    Err(frame_refusal(s))
 }

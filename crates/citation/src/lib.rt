@@ -3,6 +3,5 @@
 #![tactic(auto)]
 
 pub mod judge;
-pub mod kinds;
 pub mod output;
 pub mod store;

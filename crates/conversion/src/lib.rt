@@ -8,7 +8,6 @@ ghost use Rattle.conversion.specs.Conversion.{conversion_refusal, converted, con
 ghost use Rattle.conversion.specs.Conversion.{converted_into, renewed, left_with};
 ghost use Rattle.conversion.specs.Told.{told_left};
 
-use citation::kinds::RETIRED;
 use citation::output::{Record, put};
 use little_endian::le16;
 use reckoning::refusal::Refusal;
@@ -17,7 +16,7 @@ use reckoning::refusal::Refusal;
 fn is_convertible(s: &[u8]) -> bool
     ensures { result ≡ eqb (conversion_refusal s.now) 0 }
 {
-    if s.len() != 10 || le16(s[0], s[1]) != 10 || le16(s[2], s[3]) != RETIRED {
+    if s.len() != 10 || le16(s[0], s[1]) != 10 || le16(s[2], s[3]) != 2 {
         return false;
     }
     s[9] < 60
@@ -31,7 +30,7 @@ fn refusal(s: &[u8]) -> Refusal
     if s.len() < 4 {
         return Refusal::Short;
     }
-    if le16(s[2], s[3]) != RETIRED {
+    if le16(s[2], s[3]) != 2 {
         return Refusal::Kind;
     }
     if s.len() != 10 || le16(s[0], s[1]) != 10 {
@@ -62,7 +61,7 @@ fn raised(s: &[u8]) -> Record
 fn is_another(s: &[u8]) -> bool
     ensures { result ≡ eqb (conversion_refusal s.now) KIND }
 {
-    4 <= s.len() && le16(s[2], s[3]) != RETIRED
+    4 <= s.len() && le16(s[2], s[3]) != 2
 }
 
 // The refusal of a record that is left; one that is converted or of another kind has none.

@@ -7,12 +7,12 @@ use Rattle.conversion.proofs.refusal.Goals as goal
 pub returns-then-s-lt4 : goal.returns-then-s-lt4
 returns-then-s-lt4 c = too_short _ c.if-s-lt4.true
 
-pub returns-then-le16-ne-RETIRED : goal.returns-then-le16-ne-RETIRED
-returns-then-le16-ne-RETIRED c = another_kind _ (omega arith) (λ two. c.if-le16-ne-RETIRED.true (c.le16.ensures.0 ∙ two))
+pub returns-then-le16-ne2 : goal.returns-then-le16-ne2
+returns-then-le16-ne2 c = another_kind _ (omega arith) (λ two. c.if-le16-ne2.true (c.le16.ensures.0 ∙ two))
 
 pub returns-then-s-ne10 : goal.returns-then-s-ne10
 returns-then-s-ne10 c =
-    let two = sym c.le16.ensures.0 ∙ c.if-le16-ne-RETIRED.false in
+    let two = sym c.le16.ensures.0 ∙ c.if-le16-ne2.false in
     elim c.then-s-ne10.branch [
       | then-s-ne10-via-then-s-ne10 w ↦ wrong_length _ (omega arith) two (λ field long. w.if-s-ne10.true long)
       | then-s-ne10-via-else-s-ne10+then-le16-ne10 w ↦
@@ -22,4 +22,4 @@ returns-then-s-ne10 c =
 pub returns : goal.returns
 returns c =
     name_refused _ c.requires (sym c.le16-else-s-ne10.ensures.0 ∙ c.if-le16-ne10.false) (omega arith)
-    (sym c.le16.ensures.0 ∙ c.if-le16-ne-RETIRED.false)
+    (sym c.le16.ensures.0 ∙ c.if-le16-ne2.false)

@@ -15,12 +15,12 @@ returns-then-outside c =
     let out = not_inside 1 5 _ (sym ((c.outside.ensures ∙ ap (outside 1 5) c.le16-kind.ensures.0)) ∙ c.if-outside.true) in
     wrong_kind _ (omega arith) out
 
-pub returns-then-kind-eq-RETIRED : goal.returns-then-kind-eq-RETIRED
-returns-then-kind-eq-RETIRED c =
-    retired_kind _ (omega arith) ((inside_of 1 5 _ (sym ((c.outside.ensures ∙ ap (outside 1 5) c.le16-kind.ensures.0)) ∙ c.if-outside.false))) (sym c.le16-kind.ensures.0 ∙ c.if-kind-eq-RETIRED.true)
+pub returns-then-kind-eq2 : goal.returns-then-kind-eq2
+returns-then-kind-eq2 c =
+    retired_kind _ (omega arith) ((inside_of 1 5 _ (sym ((c.outside.ensures ∙ ap (outside 1 5) c.le16-kind.ensures.0)) ∙ c.if-outside.false))) (sym c.le16-kind.ensures.0 ∙ c.if-kind-eq2.true)
 
 pub returns : goal.returns
 returns c =
     let k = (inside_of 1 5 _ (sym ((c.outside.ensures ∙ ap (outside 1 5) c.le16-kind.ensures.0)) ∙ c.if-outside.false)) in
-    let not_two : kind_of c.args.s.now ≡ 2 → ⊥ = λ two. c.if-kind-eq-RETIRED.false (c.le16-kind.ensures.0 ∙ two) in
+    let not_two : kind_of c.args.s.now ≡ 2 → ⊥ = λ two. c.if-kind-eq2.false (c.le16-kind.ensures.0 ∙ two) in
     wrong_length _ (omega arith) k not_two (length_wrong _ c.requires (k, not_two))
