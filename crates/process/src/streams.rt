@@ -1,16 +1,17 @@
 // Standard input and output and standard error, a failure told apart from the end. A call that a signal interrupts is
 // made again. What a call reads or writes is the system's, and no contract can say it.
-ghost use Rattle.std.specs.Prelude.{◌≡◌, ℕ, ◌<◌, ◌≤◌, length, slice_index, IfOk, IsOk};
+ghost use Rattle.std.specs.Prelude.{◌≡◌, ℕ, pos, ◌<◌, ◌≤◌, length, slice_index, IfOk, IsOk};
 
 use std::io;
 use std::io::{Cursor, Error, ErrorKind, Read, Stderr, Stdin, Stdout, Write};
 
-// The three streams.
+// The three streams, and the system's number for why the last call that failed did so: 0 where none has failed.
 #[derive(Drop)]
 pub struct Streams {
     input: Stdin,
     output: Stdout,
     errors: Stderr,
+    errno: i32,
 }
 
 // Why a program cannot go on: a read of standard input or a write to standard output failed.
@@ -29,15 +30,22 @@ pub fn zeros<const N: usize>() -> [u8; N]
     [0; N]
 }
 
-// The streams of a program.
+// None of them has failed yet.
 pub fn open(input: Stdin, output: Stdout, errors: Stderr) -> Streams
-    ensures { result ≡ record { input = input; output = output; errors = errors } }
+    ensures { result ≡ record { input = input; output = output; errors = errors; errno = pos 0 } }
 {
     Streams {
         input,
         output,
         errors,
+        errno: 0,
     }
+}
+
+// Whether a call that gave this error was interrupted before it did anything. The error's number is kept.
+fn is_interrupted(error: Error, errno: &mut i32) -> bool {
+    *errno = error.raw_os_error().unwrap_or(0);
+    error.kind() == ErrorKind::Interrupted
 }
 
 // Reads once into a buffer that has room, and gives how many bytes; none at the end of the input. A proved loop has to
@@ -48,35 +56,56 @@ pub fn read(streams: &mut Streams, buffer: &mut [u8]) -> Result<usize, Failure>
     for _ in 0..u64::MAX {
         match streams.input.read(buffer) {
             Ok(count) => return Ok(count),
-            Err(error) if error.kind() == ErrorKind::Interrupted => {}
-            Err(error) => return Err(Failure::Input(error)),
+            Err(error) => {
+                if !is_interrupted(error, &mut streams.errno) {
+                    break;
+                }
+            }
         }
     }
-    Err(Failure::Input(Error::from(ErrorKind::TimedOut)))
+    Err(Failure::Input(Error::from_raw_os_error(streams.errno)))
 }
 
-// Writes all of the text; no text can always be written. After a failure some of it may have been written.
-pub fn write_to<W: Write>(stream: &mut W, text: &[u8]) -> io::Result<()>
+// Writes all of the text; no text can always be written. After a failure some of it may have been written. Where the
+// system takes nothing without an error, the last call that failed tells why: so no `write_all`.
+pub fn write_to<W: Write>(stream: &mut W, errno: &mut i32, text: &[u8]) -> io::Result<()>
     ensures { length text.now ≡ 0 → IsOk result }
 {
     if text.is_empty() {
         return Ok(());
     }
-    stream.write_all(text)
+    let mut rest = text;
+    for _ in 0..u64::MAX {
+        match stream.write(rest) {
+            Ok(0) => break,
+            Ok(n) => {
+                rest = &rest[n..];
+                if rest.is_empty() {
+                    return Ok(());
+                }
+            }
+            Err(error) => {
+                if !is_interrupted(error, errno) {
+                    break;
+                }
+            }
+        }
+    }
+    Err(Error::from_raw_os_error(*errno))
 }
 
 // The same to standard output.
 pub fn write(streams: &mut Streams, text: &[u8]) -> Result<(), Failure>
     ensures { length text.now ≡ 0 → IsOk result }
 {
-    write_to(&mut streams.output, text).map_err(Failure::Output)
+    write_to(&mut streams.output, &mut streams.errno, text).map_err(Failure::Output)
 }
 
 // The same to standard error.
 pub fn write_error(streams: &mut Streams, text: &[u8]) -> io::Result<()>
     ensures { length text.now ≡ 0 → IsOk result }
 {
-    write_to(&mut streams.errors, text)
+    write_to(&mut streams.errors, &mut streams.errno, text)
 }
 
 // The system's error as std tells it: the system's words, and its number, as in
