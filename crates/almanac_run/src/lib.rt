@@ -51,13 +51,16 @@ const HELP: &[u8] = b"almanac year SYSTEM YEAR [LAST]\n\
     The manual page almanac(1) tells the lines and the exit status.\n";
 
 // Argument i as a number. A missing one reads as an empty text, which is none. No argument on Linux is longer than the
-// array.
+// array. Not inlined, for the stack's sake, as `range_at`.
+#[inline(never)]
 fn number_at<R: Env>(rt: &R, i: usize) -> Option<u32> {
     let mut text = zeros::<131072>();
     number::read(word(rt, i, &mut text))
 }
 
-// The numbers from argument i to the last of `count` words, which is argument i again where LAST is left out.
+// The numbers from argument i to the last of `count` words, which is argument i again where LAST is left out. Not inlined,
+// so that its arrays are on the stack only while it runs.
+#[inline(never)]
 fn range_at<R: Env>(rt: &R, i: usize, count: usize) -> Option<Range> {
     if count <= i {
         return None;
@@ -132,8 +135,6 @@ pub fn almanac_run<R: Env>(rt: &R, streams: &mut Streams, version: &[u8]) -> Sta
     let Some((request, range)) = asked(rt, count) else {
         return exit::misuse(streams, USAGE);
     };
-    match range::pages(streams, request, range) {
-        Ok(()) => Status::Answered,
-        Err(failure) => exit::fail(streams, NAME, failure),
-    }
+    let pages = range::pages(streams, request, range);
+    exit::written(streams, NAME, pages)
 }

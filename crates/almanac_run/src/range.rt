@@ -105,7 +105,8 @@ fn write_pages(
     Ok(())
 }
 
-// What is asked of each number of a range.
+// What is asked of each number of a range. Not inlined, so that its buffer is on the stack after the arguments were read.
+#[inline(never)]
 pub(crate) fn pages(streams: &mut Streams, request: Request, range: Range) -> Result<(), Failure> {
     let mut buffer = zeros::<65536>();
     write_pages(streams, &mut buffer, request, range)

@@ -95,10 +95,8 @@ fn answer_all(streams: &mut Streams) -> Status
 {
     let mut input = zeros::<32768>();
     let mut out = zeros::<524352>();
-    match answer_input(streams, &mut input, &mut out) {
-        Ok(status) => status,
-        Err(failure) => exit::fail(streams, NAME, failure),
-    }
+    let run = answer_input(streams, &mut input, &mut out);
+    exit::ended(streams, NAME, run)
 }
 
 // Does what the arguments ask, and gives the exit status.

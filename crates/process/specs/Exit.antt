@@ -1,7 +1,8 @@
 -- Exit statuses.
-use Rattle.std.specs.Prelude.{ℕ, ◌≤◌}
+use Rattle.std.specs.Prelude.{ℕ, ◌≤◌, ◌≡◌, Result, Ok, Err}
 use Rattle.process.specs.declared.exit.Status.{Status}
 use Rattle.process.specs.declared.exit.Status.TheVariants.{Answered, Failed, Misused}
+use Rattle.process.specs.declared.streams.Failure.{Failure}
 
 -- All that was read was answered, or renewed.
 abbrev pub answered : ℕ
@@ -28,3 +29,8 @@ AnsweredOrFailed status = number status ≤ failed
 -- What a program ends with: one of the three.
 abbrev pub Ended : Status → Type 0
 Ended status = number status ≤ misused
+
+-- What a run comes to: its status, or, where a call of the system failed, Failed.
+abbrev pub EndedBy : Result Status Failure → Status → Type 0
+EndedBy (Ok status) end = end ≡ status
+EndedBy (Err failure) end = end ≡ Failed

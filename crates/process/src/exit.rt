@@ -1,7 +1,7 @@
 // Exit statuses, with the words that go to standard error.
 ghost use Rattle.std.specs.Prelude.{◌≡◌, ◌%◌, cond, eqb};
 ghost use Rattle.std.specs.Process.{exit_status};
-ghost use Rattle.process.specs.Exit.{number, AnsweredOrFailed};
+ghost use Rattle.process.specs.Exit.{number, AnsweredOrFailed, EndedBy};
 
 use crate::streams;
 use crate::streams::{Failure, Streams};
@@ -94,22 +94,29 @@ pub fn misuse(streams: &mut Streams, usage: &[u8]) -> Status
     Status::Misused
 }
 
-// The status of a program that has written its reply, or could not.
-fn replied(streams: &mut Streams, program: &[u8], written: Result<(), Failure>) -> Status
-    ensures { AnsweredOrFailed result }
+// The status of a program by that of its run, or by the failure that ended the run, which is told.
+pub fn ended(streams: &mut Streams, program: &[u8], run: Result<Status, Failure>) -> Status
+    ensures { EndedBy run result }
 {
-    match written {
-        Ok(()) => Status::Answered,
+    match run {
+        Ok(status) => status,
         Err(failure) => fail(streams, program, failure),
     }
+}
+
+// The status of a program that has written what it was asked for, or could not.
+pub fn written(streams: &mut Streams, program: &[u8], done: Result<(), Failure>) -> Status
+    ensures { AnsweredOrFailed result }
+{
+    ended(streams, program, done.map(|()| Status::Answered))
 }
 
 // Writes a text to a program's standard output.
 pub fn reply(streams: &mut Streams, program: &[u8], text: &[u8]) -> Status
     ensures { AnsweredOrFailed result }
 {
-    let written = streams::write(streams, text);
-    replied(streams, program, written)
+    let done = streams::write(streams, text);
+    written(streams, program, done)
 }
 
 fn write_version(streams: &mut Streams, program: &[u8], version: &[u8]) -> Result<(), Failure> {
@@ -123,6 +130,6 @@ fn write_version(streams: &mut Streams, program: &[u8], version: &[u8]) -> Resul
 pub fn reply_version(streams: &mut Streams, program: &[u8], version: &[u8]) -> Status
     ensures { AnsweredOrFailed result }
 {
-    let written = write_version(streams, program, version);
-    replied(streams, program, written)
+    let done = write_version(streams, program, version);
+    written(streams, program, done)
 }

@@ -2,7 +2,7 @@
 // moved between that and the system.
 #![tactic(auto)]
 
-ghost use Rattle.std.specs.Prelude.{◌≡◌, ◌<◌, ◌≤◌, length, take, if◌then◌else◌, nat_eq, IfOk};
+ghost use Rattle.std.specs.Prelude.{◌≡◌, false, ◌<◌, ◌≤◌, length, take, if◌then◌else◌, nat_eq, IfOk, MatchResult};
 ghost use Rattle.process.specs.Exit.{AnsweredOrFailed, Ended};
 ghost use Rattle.renew_run.specs.Stepped.{Stepped, ReadAndRenewed};
 
@@ -99,8 +99,9 @@ fn stop(
     status: Status,
 ) -> Result<Status, Failure>
     requires { AnsweredOrFailed status }
-    ensures { IfOk result
-        (λ r. (r ≡ (if nat_eq left 0 then status else Status.Failed)) × AnsweredOrFailed r) }
+    ensures { MatchResult result
+        (λ r. (r ≡ (if nat_eq left 0 then status else Status.Failed)) × AnsweredOrFailed r)
+        (λ _. nat_eq left 0 ≡ false) }
 {
     if left == 0 {
         return Ok(status);
@@ -153,10 +154,8 @@ fn renew_all(streams: &mut Streams) -> Status
     ensures { AnsweredOrFailed result }
 {
     let mut buffer = zeros::<65536>();
-    match renew_input(streams, &mut buffer) {
-        Ok(status) => status,
-        Err(failure) => exit::fail(streams, NAME, failure),
-    }
+    let run = renew_input(streams, &mut buffer);
+    exit::ended(streams, NAME, run)
 }
 
 // Does what the arguments ask, and gives the exit status.
