@@ -1,5 +1,5 @@
 -- Text written piece by piece.
-use Prim.Native.Nat.{ℕ, ◌+◌, ◌-◌, ◌≤◌, ◌<◌}
+use Prim.Native.Nat.{ℕ, ◌+◌, ◌≤◌, ◌<◌}
 use mathlib.Core.Path.{◌≡◌, refl, subst, ap, ap₂, sym, ◌∙◌}
 use mathlib.Core.Bool.{cond}
 use mathlib.Core.List.{List, [], ◌∷◌, ◌++◌, append_assoc, append-nil}
@@ -8,10 +8,8 @@ use native.Mathlib.Omega.{arith}
 use lib.Dec.{eqb}
 use lib.ListN.{length, take, drop, get_or, set, length-append, length-set, take-append-drop}
 use lib.Seq.{set_split, set-set, take_at, drop_at, drop-drop, take_all, take-length, length-take-le}
-use lib.Seq.{paste, length-paste}
-use borrow.Rule.Slice.PartMut.{put_mid}
+use lib.Seq.{paste, paste-suc, length-paste}
 use Rattle.std.proofs.lemmas.List.{take_more}
-use Rattle.std.proofs.lemmas.Slice.{put_mid-paste}
 use Rattle.std.specs.Prelude.{Option, None, Some}
 use borrow.Author.Tests.{eq-eqb, ne_eqb}
 use Rattle.calendar.proofs.Rising.{by_order}
@@ -166,14 +164,19 @@ pub wrote_all_fields : {b a : List ℕ} {at e : ℕ} (numbers : List ℕ) (i : �
     → Wrote b at (fields (take i numbers)) a e → Wrote b at (fields numbers) a e
 wrote_all_fields numbers i h w = wrote_as (ap fields (take_all i numbers h)) w
 
--- A copied text.
-pub wrote_copied : (b : List ℕ) (at : ℕ) (text copy : List ℕ) → copy ≡ text → at + length text ≤ length b
-    → Wrote b at (word text) (put_mid at (at + length text - at) b copy) (at + length text)
+-- Text copied byte by byte.
+pub copied_more : {o : List ℕ} (b : List ℕ) (at : ℕ) (text : List ℕ) (i : ℕ) → o ≡ paste b at text i → at + length text ≤ length b
+    → i < length text → set o (at + i) (get_or text i 0) ≡ paste b at text (i + 1)
+copied_more b at text i e h l =
+    ap (λ o. set o (at + i) (get_or text i 0)) e
+    ∙ paste-suc b at text i 0 (omega arith) (omega arith)
+    ∙ ap (paste b at text) (sym (add-one i))
+
+pub wrote_copied : {o : List ℕ} (b : List ℕ) (at : ℕ) (text : List ℕ) (i : ℕ) → o ≡ paste b at text i → at + length text ≤ length b
+    → i ≡ length text → Wrote b at (word text) o (at + length text)
 unfolding word
-wrote_copied b at text copy same h =
-    let whole : put_mid at (at + length text - at) b copy ≡ paste b at text (length text) =
-    put_mid-paste at (at + length text - at) b copy text (length text) same (omega arith) refl
-    in
+wrote_copied {o} b at text i e h all =
+    let whole : o ≡ paste b at text (length text) = e ∙ ap (paste b at text) all in
     record {
       is =
           whole

@@ -191,14 +191,16 @@ fn fields(out: &mut [u8], start: usize, numbers: &[u32]) -> usize
     at
 }
 
-// A word, as its bytes.
+// A word, as its bytes. One by one: of a word that it knows the compiler makes a store or two, and of `copy_from_slice` a
+// test whether the two overlap as well.
 pub(crate) fn word(out: &mut [u8], at: usize, bytes: &[u8]) -> usize
     requires { at + length bytes.now ≤ length out.old }
     ensures { Wrote out.old at (word bytes.now) out.new result × (result ≤ at + length bytes.now) }
 {
-    let end = at + bytes.len();
-    out[at..end].copy_from_slice(bytes);
-    end
+    for i in 0..bytes.len() {
+        out[at + i] = bytes[i];
+    }
+    at + bytes.len()
 }
 
 // A word and a number after it.
