@@ -1,12 +1,12 @@
 -- What the code settles a fraction to, by its tests.
-use Prim.Native.Nat.{ℕ, ◌^◌, ◌<◌}
-use mathlib.Core.Path.{◌≡◌, refl, sym, ◌∙◌}
+use Prim.Native.Nat.{ℕ, ◌^◌, ◌≤◌, ◌<◌}
+use mathlib.Core.Path.{◌≡◌, refl, sym, subst, ◌∙◌}
 use mathlib.Core.Bool.{true, false, true≢false, and-false, and-true}
 use lib.Dec.{T, not_T, leb}
 use lib.Ieee.{Float, nan, inf, fin, binary64, le, lt, fits, is_nan, to_bits}
 use lib.Ieee.Bits.{is_true, is_false}
 use Rattle.std.specs.Prelude.{Some, None}
-use borrow.Author.Tests.{lt-ltb}
+use borrow.Author.Tests.{lt-ltb, le-leb}
 use Rattle.day_fraction.specs.Fraction.{zero_float, one_float}
 use Rattle.day_fraction.specs.Settling.{is_fraction, count_of, settled_of}
 use Rattle.day_fraction.proofs.BelowZero.{by_pattern}
@@ -26,6 +26,9 @@ number (fin s m e) h = refl
 pub by_bits : (f : Float) → T (fits binary64 f) → (below : lt f one_float ≡ true) → leb (to_bits binary64 f) (2 ^ 63) ≡ is_fraction f
 unfolding is_fraction
 by_bits f float below = by_pattern f float (number f below) ∙ simp (below, and-true)
+
+pub is_fraction_lem : (f : Float) → T (fits binary64 f) → lt f one_float ≡ true → to_bits binary64 f ≤ 2 ^ 63 → T (is_fraction f)
+is_fraction_lem f float below l = subst T (sym (le-leb _ _ l) ∙ by_bits f float below) tt
 
 pub not_below_one : (f : Float) → lt f one_float ≡ false → lt f one_float ≡ is_fraction f
 unfolding is_fraction

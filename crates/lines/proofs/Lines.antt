@@ -24,6 +24,16 @@ use Rattle.lines.specs.Line.{words, stored_line, refusal_line, line_of}
 use Rattle.lines.specs.Program.{ending_of}
 
 -- The words of a stored record and its day make its line.
+pub told_stored : {b a : List ℕ} {at e year : ℕ} {name : DayName} (stored : List ℕ) (r : ℕ)
+    → year ≡ year_field stored
+    → name ≡ record { 0 = name_of r }
+    → Wrote b at (words (system_of stored) year (month_field stored) (leap_field stored) (day_field stored) r name.0) a e
+    → Wrote b at (stored_line stored r) a e
+unfolding stored_line
+told_stored stored r year_is name-is w =
+    wrote_as (λ i. words (system_of stored) (year_is i) (month_field stored) (leap_field stored) (day_field stored) r (name-is i).0) w
+
+-- The same of what was put.
 pub put_stored : {b a : List ℕ} {at e year : ℕ} {name : DayName} (stored : List ℕ) (r : ℕ)
     → year ≡ year_field stored
     → name ≡ record { 0 = name_of r }

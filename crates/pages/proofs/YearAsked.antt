@@ -1,6 +1,6 @@
 -- What is answered of a year that was asked for.
 use Prim.Native.Nat.{ℕ, ◌+◌, ◌≤◌, ◌<◌}
-use mathlib.Core.Path.{◌≡◌, ap, subst, sym, ◌∙◌}
+use mathlib.Core.Path.{◌≡◌, refl, ap, subst, sym, ◌∙◌}
 use mathlib.Core.Logic.{⊎_elim}
 use native.Mathlib.Omega.{arith}
 use Rattle.calendar.specs.Systems.{constants_of, years_elapsed}
@@ -28,9 +28,12 @@ pub year_in_scope : {months : YearAnswer} (system year : ℕ) → months ≡ yea
 year_in_scope system year is none =
     accepted system year (sym (ap (λ v. v.refusal) is ∙ year_carries system year) ∙ none)
 
+accepted_tiled : (system year : ℕ) → (year_of system year).refusal ≡ 0 → Tiled (year_of system year)
+accepted_tiled system year none = year_tiled system year (year_in_scope system year refl none)
+
 pub printable : {months : YearAnswer} (system year : ℕ) → months ≡ year_of system year → months.refusal ≡ 0 → Printable months
 printable system year is none =
-    let t = subst Tiled (sym is) (year_tiled system year (year_in_scope system year is none)) in
+    let t = subst Tiled (sym is) (accepted_tiled system year (sym (ap (λ v. v.refusal) is) ∙ none)) in
     record { tiled = t; thirteen_at_most = ⊎_elim (λ e. omega arith) (λ e. omega arith) t.months }
 
 -- A sheet has room for the days of its year.

@@ -9,7 +9,7 @@ use Rattle.calendar.specs.Inside.{Inside}
 use Rattle.calendar.specs.Systems.{last_system, constants_of, years_elapsed}
 use Rattle.reckoning.specs.ComputedRefusals.{out_of_years, year_refusal}
 use Rattle.reckoning.specs.RefusalNumbers.{SYSTEM, YEAR}
-use Rattle.reckoning.proofs.RefusalCases.{inside_of, in_scope, by_inside, by_scope}
+use Rattle.reckoning.proofs.RefusalCases.{inside_of, in_scope, accepted, by_inside, by_scope}
 use Rattle.reckoning.specs.Asked.{Asked, asked_of}
 use Rattle.reckoning.specs.Requests.{answer_to, answer_unless, answer_of_system, answer_of_year}
 use Rattle.reckoning.specs.WordBounds.{YearInRegister}
@@ -39,6 +39,13 @@ module _ {A : Type 0} (answer : Constants → ℕ → A) (blank : ℕ → A) whe
   answered_year system year s =
       let a = asked_of (year_refusal system year) system year in answered a a refl (in_scope system year s)
 
+  -- by the constants that the system's number picks
+  pub answered_here : (system year : ℕ) (c : Constants) → constants_of system ≡ c → year_refusal system year ≡ 0
+      → answer c (years_elapsed c year) ≡ answer_unless (year_refusal system year) system year answer blank
+  answered_here system year c e z =
+      sym (ap (λ k. answer k (years_elapsed k year)) e)
+      ∙ answered (asked_of (year_refusal system year) system year) _ refl z
+
 pub year_tested : (year : ℕ) {b : Bool} → b ≡ out_of_years year → b ≡ false → YearInScope year
 year_tested year test inside = inside_of 1 3000 year (sym test ∙ inside)
 
@@ -51,6 +58,11 @@ system_then_year answer blank system year =
     by_inside 1 last_system system
     (λ e out. simp e)
     (λ e into. by_inside 1 3000 year (λ f out. simp (e, f)) (λ f into. simp (e, f)))
+
+pub in_register_here : (system year : ℕ) (c : Constants) → constants_of system ≡ c → year_refusal system year ≡ 0
+    → YearInRegister c (years_elapsed c year)
+in_register_here system year c e z =
+    subst (λ k. YearInRegister k (years_elapsed k year)) e (year_in_register system year (accepted system year z).year_inside)
 
 -- What was answered to a request by system and year carries a number: it is the request's refusal, at most YEAR, and the
 -- blank; or the request is in scope.
@@ -74,6 +86,22 @@ module _ {A : Type 0} (number : A → ℕ) (blank : ℕ → A) (carries : (refus
         with_number refusal e i =
             let blank_is = is ∙ refused_year answer blank system year refusal e i.at_least in
             refused refusal e i (ap number blank_is ∙ carries refusal) blank_is
+
+-- What is asked by system and year and not refused: the constants are the system's, and the year lies within the
+-- register.
+module _ (system year : ℕ) {a : Asked} (e : a ≡ asked_of (year_refusal system year) system year) (z : a.refusal ≡ 0) where
+  picked_here : constants_of system ≡ a.c
+  picked_here = sym (ap (λ x. x.c) e)
+
+  accepted_here : year_refusal system year ≡ 0
+  accepted_here = sym (ap (λ x. x.refusal) e) ∙ z
+
+  pub asked_of_system : (a.c ≡ constants_of system) × YearInRegister a.c (years_elapsed a.c year)
+  asked_of_system = (sym picked_here, in_register_here system year a.c picked_here accepted_here)
+
+  pub answered_of_system : {A : Type 0} (answer : Constants → ℕ → A) (blank : ℕ → A)
+      → answer a.c (years_elapsed a.c year) ≡ answer_unless (year_refusal system year) system year answer blank
+  answered_of_system answer blank = answered_here answer blank system year a.c picked_here accepted_here
 
 -- What is asked in scope lies within the register.
 pub asked_in_register : (a : Asked) (refusal system year : ℕ) → a ≡ asked_of refusal system year → InScope system year

@@ -15,7 +15,7 @@ use Rattle.reckoning.specs.Divisions.{Division, qis, pentads}
 use Rattle.reckoning.specs.Asked.{Asked, asked_of}
 use Rattle.reckoning.specs.RefusalNumbers.{number_of}
 use Rattle.reckoning.specs.Told.{accepted_as}
-use Rattle.reckoning.specs.Requests.{no_moment, step_in, step_of}
+use Rattle.reckoning.specs.Requests.{answer_to, no_moment, step_in, step_of}
 use Rattle.reckoning.specs.WordBounds.{ConstantsFit, StepFits, YearInRegister}
 use Rattle.reckoning.proofs.RefusalCases.{accepted_step}
 use Rattle.reckoning.proofs.ToldCases.{number_not_0}
@@ -91,18 +91,25 @@ asked_fits division sound system year i {asked} e accepted =
     (sound.next_small asked.c asked.n r)
     (omega (arith, s.1, sound.last_inside))
 
--- What is answered to what is asked is the blank, refused, or else the step.
+-- What is answered to what is asked is the step; by a result, it is the blank, refused, or else the step.
 module _ (division : Division) (system year i : ℕ) where
+  pub answers_step : {asked : Asked} {v : MomentAnswer}
+      → asked ≡ asked_of (step_refusal division.last system year i) system year
+      → v ≡ answer_to asked (step_in division.steps (division.units asked.c) i) no_moment
+      → v ≡ step_of division system year i
+  unfolding step_of
+  answers_step e is =
+      is ∙ ap (λ a. answer_to a (step_in division.steps (division.units a.c) i) no_moment) e
+
   pub refuses_step : (r : Refusal) → asked_of (number_of r) system year ≡ asked_of (step_refusal division.last system year i) system year
       → no_moment (number_of r) ≡ step_of division system year i
-  unfolding step_of
   refuses_step r e =
-      refused (λ c n. step_in division.steps (division.units c) i c n) no_moment (asked_of (number_of r) system year) _ e (number_not_0 r)
+      let asked = asked_of (number_of r) system year in
+      answers_step e (refused (step_in division.steps (division.units asked.c) i) no_moment asked asked refl (number_not_0 r))
 
-  pub answers_step : (asked : Accepted) {v : MomentAnswer}
+  pub answers_accepted_step : (asked : Accepted) {v : MomentAnswer}
       → accepted_as asked ≡ asked_of (step_refusal division.last system year i) system year
       → v ≡ step_in division.steps (division.units asked.calendar.c) i asked.calendar.c (years_elapsed asked.calendar.c asked.year)
       → v ≡ step_of division system year i
-  unfolding step_of
-  answers_step asked e is =
-      is ∙ answered (λ c n. step_in division.steps (division.units c) i c n) no_moment (accepted_as asked) _ e refl
+  answers_accepted_step asked e is =
+      answers_step e (is ∙ answered (step_in division.steps (division.units asked.calendar.c) i) no_moment (accepted_as asked) _ refl refl)

@@ -1,14 +1,15 @@
--- From one new moon to the next.
-use Prim.Native.Nat.{ℕ, ◌+◌, ◌*◌, ◌-◌, ◌<◌, ◌≤◌}
+-- From one new moon to the next, and a month's new moon by its head.
+use Prim.Native.Nat.{ℕ, ◌+◌, ◌*◌, ◌-◌, ◌%◌, ◌<◌, ◌≤◌}
 use mathlib.Core.Path.{◌≡◌, sym, ap}
 use mathlib.Core.Logic.{◌↔◌}
-use native.Mathlib.Nat.{div-eq_of_lt-le}
+use native.Mathlib.Nat.{div-add-mod', div-eq_of_lt-le}
 use native.Mathlib.Omega.{arith}
 use borrow.Author.Tests.{lt-ltb, le-ltb}
 use Rattle.calendar.specs.declared.data.Constants.{Constants}
 use Rattle.calendar.specs.Systems.{register_day}
 use Rattle.calendar.specs.Month.{new_moon, new_moon_remainder, month_head, month_length}
 use Rattle.calendar.specs.Consistent.{Consistent}
+use Rattle.calendar.specs.ClosedForms.{month_of_day}
 use Rattle.calendar.proofs.HeldQi.{moon_told, remainder_below}
 use Rattle.calendar.proofs.Rising.{by_order}
 use Rattle.reckoning.specs.WordBounds.{InRegister}
@@ -62,3 +63,18 @@ module _ (c : Constants) (consistent : Consistent c) where
         let next = next_long l in
         let day : register_day c (month_head c k) + 30 ≡ register_day c (month_head c (k + 1)) = omega (arith, there.from, next.0) in
         simp (le-ltb r rule.shortfall l) (λ j. record { day = day j; remainder = sym next.1 j }))
+
+  -- The new moon of a month, by the day that is its head.
+  module _ (d : ℕ) (begins_month : month_head c (month_of_day c d) ≡ d) where
+    abbrev left_over : ℕ
+    left_over = ((d + 1) * c.lunar - 1) % c.month
+
+    pub left_of_day : new_moon_remainder c (month_of_day c d) + left_over + 1 ≡ c.lunar
+    left_of_day =
+        omega (
+          arith,
+          consistent.lunar_some,
+          div-add-mod' ((d + 1) * c.lunar - 1) c.month,
+          moon_told c consistent (month_of_day c d),
+          ap (λ x. x * c.lunar) begins_month,
+        )

@@ -1,10 +1,13 @@
 -- The new moons of a year as the code goes through them.
-use Prim.Native.Nat.{ℕ, ◌+◌, ◌<◌}
-use mathlib.Core.Path.{◌≡◌, ap, ◌∙◌}
+use Prim.Native.Nat.{ℕ, ◌+◌, ◌*◌, ◌-◌, ◌%◌, ◌<◌}
+use mathlib.Core.Path.{◌≡◌, sym, ap, ◌∙◌}
 use mathlib.Core.List.{List}
 use native.Mathlib.Omega.{arith}
 use lib.ListN.{set}
 use Rattle.calendar.specs.declared.data.Constants.{Constants}
+use Rattle.calendar.specs.Systems.{register_day, count_day}
+use Rattle.calendar.specs.Month.{new_moon_remainder, month_head}
+use Rattle.calendar.specs.ClosedForms.{month_of_day}
 use Rattle.calendar.proofs.HeldQi.{remainder_below}
 use Rattle.reckoning.specs.Filled.{filled}
 use Rattle.reckoning.specs.WordBounds.{MonthsInRegister}
@@ -16,8 +19,23 @@ use Rattle.submerged_extinguished.specs.declared.rules.Rule.{Rule}
 use Rattle.submerged_extinguished.specs.Answers.{extinguished_at, no_moons, extinguished_from}
 use Rattle.submerged_extinguished.specs.Moons.{moon_at, moon_after, extinguished_on}
 use Rattle.submerged_extinguished.specs.RuleHolds.{RuleHolds}
-use Rattle.submerged_extinguished.specs.WordBounds.{MoonFits}
-use Rattle.submerged_extinguished.proofs.MoonLaws.{next_moon}
+use Rattle.submerged_extinguished.specs.WordBounds.{HeadFits, MoonFits}
+use Rattle.submerged_extinguished.proofs.MoonLaws.{next_moon, left_of_day}
+
+-- The first new moon, by the year's head r.
+module _ {c : Constants} {r : ℕ} (f : HeadFits c r) where
+  abbrev d : ℕ
+  d = count_day c r
+
+  pub first_moon_lem : {m : Moon} → m ≡ record { day = r; remainder = c.lunar - 1 - ((d + 1) * c.lunar - 1) % c.month }
+      → m ≡ moon_at c (month_of_day c d)
+  first_moon_lem is =
+      let left : new_moon_remainder c (month_of_day c d) + ((d + 1) * c.lunar - 1) % c.month + 1 ≡ c.lunar =
+      left_of_day c f.constants_fit.consistent d f.begins_month
+      in
+      let day : r ≡ register_day c (month_head c (month_of_day c d)) = sym f.back ∙ ap (register_day c) (sym f.begins_month) in
+      let remainder : c.lunar - 1 - ((d + 1) * c.lunar - 1) % c.month ≡ (moon_at c (month_of_day c d)).remainder = omega (arith, left) in
+      is ∙ (λ j. record { day = day j; remainder = remainder j })
 
 -- So far i new moons are listed, and `moon` is the next, counted from the new moon of whatever month was the first.
 pub record Listing (c : Constants) (rule : Rule) (count : ℕ) (start : Moon) (i : ℕ) (moons : List DayDistance) (moon : Moon) : Type 0 where

@@ -1,7 +1,7 @@
 use mathlib.Core.Path.{refl}
 use Rattle.std.proofs.lemmas.Result.{err_from_is_err_and}
 use Rattle.reckoning.specs.Divisions.{qis}
-use Rattle.reckoning.proofs.StepLaws.{qis_sound, asked_fits, refuses_step, answers_step}
+use Rattle.reckoning.proofs.StepLaws.{qis_sound, asked_fits, refuses_step, answers_accepted_step}
 use Rattle.reckoning.proofs.qi.Goals as goal
 
 pub returns-in_err-asked : goal.returns-in_err-asked
@@ -13,4 +13,4 @@ pub step-requires : goal.step-requires
 step-requires c = asked_fits qis qis_sound _ _ _ c.in_ok-asked.ensures refl
 
 pub returns : goal.returns
-returns c = answers_step qis _ _ _ c.in_ok-asked.asked c.in_ok-asked.ensures c.step.ensures
+returns c = answers_accepted_step qis _ _ _ c.in_ok-asked.asked c.in_ok-asked.ensures c.step.ensures
