@@ -97,8 +97,8 @@ fn by_system<A, F: FnOnce(Constants) -> Result<A, Refusal>>(
     }
 }
 
-// The head of a year, reckoned even where it is printed: among the code of the storing step the compiler makes a jump of
-// the read from the page, which takes longer.
+// The head of a year, reckoned even where it is printed: so the storing step asks for it since the time that a read from
+// the page took longer there. Now it would take less (docs/DECISIONS.md, Q-5).
 pub fn reckoned_head(system: u32, year: u32) -> Result<RegisterDay, Refusal>
     ensures { told_year_head result ≡ year_head_of system year }
 {
