@@ -1,5 +1,5 @@
 // Exit statuses, with the words that go to standard error.
-ghost use Rattle.std.specs.Prelude.{◌≡◌, ◌%◌, cond, eqb};
+ghost use Rattle.std.specs.Prelude.{◌≡◌, ◌%◌, cond, eqb, MatchResult};
 ghost use Rattle.std.specs.Process.{exit_status};
 ghost use Rattle.process.specs.Exit.{number, AnsweredOrFailed, EndedBy};
 
@@ -106,7 +106,8 @@ pub fn ended(streams: &mut Streams, program: &[u8], run: Result<Status, Failure>
 
 // The status of a program that has written what it was asked for, or could not.
 pub fn written(streams: &mut Streams, program: &[u8], done: Result<(), Failure>) -> Status
-    ensures { AnsweredOrFailed result }
+    ensures { MatchResult done (λ _. result ≡ Status.Answered) (λ _. result ≡ Status.Failed)
+        × AnsweredOrFailed result }
 {
     ended(streams, program, done.map(|()| Status::Answered))
 }
